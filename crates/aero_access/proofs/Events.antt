@@ -15,6 +15,7 @@ use Rattle.aero_engine.specs.Slots.{of_slot}
 use Rattle.aero_engine.specs.Takes.{takes_only_own, plain, read, acquire}
 use Rattle.aero_engine.specs.Events.{event}
 use Rattle.aero_engine.proofs.LongerTraces.{no_end, no_begin}
+use Rattle.aero_engine.proofs.Written.{written}
 use Rattle.aero_access.specs.declared.thread.Thread.{Thread}
 use Rattle.aero_access.specs.declared.table.Table.{Table}
 use Rattle.aero_access.specs.LastClocks.{kept_clock, kept_thread, is_kept, same_slot}
@@ -24,7 +25,7 @@ use Rattle.aero_access.specs.States.{State, IsStateOf}
 use Rattle.aero_access.specs.StateWords.{state_in, acting, Moves, ClosesLast, last_but, KeepsClock}
 use Rattle.aero_access.proofs.Outcomes.{not_true}
 use Rattle.aero_access.proofs.StateSteps.{IsStep, none_judged, stands_after}
-use Rattle.aero_access.proofs.OwnSteps.{written, same_blocks_set, own_step, last_closes, last_passes}
+use Rattle.aero_access.proofs.OwnSteps.{same_blocks_set, own_step, last_closes, last_passes}
 
 pub eq_swap : (a b : ℕ) → (a == b) ≡ (b == a)
 eq_swap a b = ⊎_elim (λ e. eq-eqb a b e ∙ sym (eq-eqb b a (sym e))) (λ ne. ne_eqb a b ne ∙ sym (ne_eqb b a (λ e. ne (sym e)))) (cases_eq a b)

@@ -6,7 +6,7 @@ use Rattle.aero_clock.specs.declared.clock.Clock.{Clock}
 use Rattle.aero_clock.specs.Numbers.{number_at, IsRaised}
 use Rattle.aero_engine.specs.declared.slot.Slot.{Slot}
 use Rattle.aero_engine.specs.declared.slot.Slot.TheVariants.{OfThread, LastWrite, LastRead, LastRelease}
-use Rattle.aero_engine.proofs.Written.{set_here}
+use Rattle.aero_engine.proofs.Written.{set_here, written}
 use Rattle.aero_access.specs.declared.kept.Kept.{Kept}
 use Rattle.aero_access.specs.declared.thread.Thread.{Thread}
 use Rattle.aero_access.specs.declared.table.Table.{Table}
@@ -21,7 +21,7 @@ use Rattle.aero_access.specs.Heeds.{Heeds, AreHeeded}
 use Rattle.std.proofs.lemmas.Option.{slice_get_within, same_Some}
 use Rattle.aero_access.proofs.KeptLists.{find_kept}
 use Rattle.aero_access.proofs.SlotNumbers.{slot_thread, slot_label, label_kept}
-use Rattle.aero_access.proofs.OwnSteps.{written, closed_from, closed_to}
+use Rattle.aero_access.proofs.OwnSteps.{closed_from, closed_to}
 
 -- clocks that heed the begins
 

@@ -6,6 +6,7 @@ use Rattle.std.proofs.lemmas.Option.{slice_get_cases}
 use Rattle.aero_clock.specs.Numbers.{number_at}
 use Rattle.aero_engine.specs.declared.slot.Slot.{Slot}
 use Rattle.aero_engine.specs.declared.slot.Slot.TheVariants.{OfThread}
+use Rattle.aero_engine.proofs.Written.{written, unwritten}
 use Rattle.aero_access.specs.declared.kept.Kept.{Kept}
 use Rattle.aero_access.specs.declared.thread.Thread.{Thread}
 use Rattle.aero_access.specs.declared.table.Table.{Table}
@@ -18,7 +19,6 @@ use Rattle.aero_access.specs.StateWords.{clock_in, state_in, slot_in, JoinsClock
 use Rattle.aero_access.specs.Heeds.{AreHeeded}
 use Rattle.aero_access.specs.Led.{leads, times, led_at, block_number, has_thread, places_in, ListsSame, GainsThread, GainsLabel, MovesLabel, IsOfBegin}
 use Rattle.aero_access.specs.Indexed.{open_number, CountsLabels, IsIndex, TakesOnly, KeepsLabels, OpensBlock, IsPast, KeepsItsClock}
-use Rattle.aero_access.proofs.OwnSteps.{written, unwritten}
 use Rattle.aero_access.proofs.Visits.{leads_more}
 use Rattle.aero_access.proofs.Labels.{clock_at_place, clock_set, clock_joined}
 use Rattle.aero_access.proofs.SlotNumbers.{slot_thread, slot_label, label_kept, no_thread}

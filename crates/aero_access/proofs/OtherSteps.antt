@@ -1,9 +1,7 @@
 -- A fork, a join, an outermost begin, and events without a clock rule.
-use Rattle.std.proofs.Common.{◌≡◌, ◌≢◌, ◌⊎◌, inl, inr, ⊎_elim, ℕ, zero, suc, ◌+◌, ◌-◌, ◌^◌, ◌<◌, ◌≤◌, List, [], ◌∷◌, ◌++◌, length, Some, None, refl, sym, ap, ◌∙◌, le_refl, arith}
+use Rattle.std.proofs.Common.{◌≡◌, ◌≢◌, ◌⊎◌, inl, inr, ⊎_elim, ℕ, ◌+◌, ◌-◌, ◌^◌, ◌<◌, ◌≤◌, List, [], ◌∷◌, ◌++◌, length, Some, None, refl, sym, ap, ◌∙◌, le_refl, arith}
 use Rattle.std.specs.Prelude.{Result, Ok, Err, OnOk, IsSome, ◌↔◌, IsTrue, ◌==◌, ◌&&◌, ◌||◌, Bool, true, false, if◌then◌else◌, slice_get, slice_set, is_some, Contains}
-use Rattle.std.specs.List.{list_any}
-use Rattle.std.proofs.lemmas.Bool.{cases_eq, both_ways, eqb-true, eq-eqb, ne_eqb, ltb-false, cond-true, cond-false, and_right, and_from, or_cases, or_left, or_right}
-use Rattle.std.proofs.lemmas.Option.{same_Some}
+use Rattle.std.proofs.lemmas.Bool.{cases_eq, both_ways, eq-eqb, ne_eqb, ltb-false, cond-true, cond-false, and_right, and_from, or_left, or_right}
 use Rattle.aero_clock.specs.declared.clock.Clock.{Clock}
 use Rattle.aero_clock.specs.Numbers.{number_at, IsRaised}
 use Rattle.aero_model.specs.declared.numbered.Numbered.{Numbered}
@@ -12,16 +10,18 @@ use Rattle.aero_model.specs.declared.numbered.What.TheVariants.{Fork, Join, Begi
 use Rattle.aero_model.specs.Blocks.{is_begin, is_end, by_thread, depth, opens, closes}
 use Rattle.aero_model.specs.Shape.{is_fork_of, has_acted, IsWellFormed}
 use Rattle.aero_model.proofs.Elements.{none_in, here, there, first_or_rest}
-use Rattle.aero_model.proofs.Stability.{agree_front, depth_same}
+use Rattle.aero_model.proofs.Stability.{agree_front}
 use Rattle.aero_model.proofs.WellFormed.{well_formed_front}
 use Rattle.aero_engine.specs.declared.slot.Slot.{Slot}
 use Rattle.aero_engine.specs.declared.slot.Slot.TheVariants.{OfThread, LastWrite, LastRead, LastRelease}
 use Rattle.aero_engine.specs.Slots.{of_slot}
-use Rattle.aero_engine.specs.Takes.{HasActed, Takes, plain, join, idle_join}
+use Rattle.aero_engine.specs.Takes.{Takes, plain, join, idle_join}
 use Rattle.aero_engine.specs.Takes as taking
 use Rattle.aero_engine.specs.Events.{event, IsIdle}
 use Rattle.aero_engine.proofs.ThreadSlots.{forked_none}
 use Rattle.aero_engine.proofs.LongerTraces.{slice_get-push, last_event_same, no_end, no_begin}
+use Rattle.aero_engine.proofs.OneMore.{depth_more, acted_place, place_acted}
+use Rattle.aero_engine.proofs.Written.{written, rewritten}
 use Rattle.aero_engine.proofs.Rules.{own_count}
 use Rattle.aero_engine.specs.Events as idle
 use Rattle.aero_access.specs.declared.thread.Thread.{Thread}
@@ -32,7 +32,7 @@ use Rattle.aero_access.specs.States.{State, IsStateOf}
 use Rattle.aero_access.specs.StateWords.{clock_in, state_in, acting, Moves}
 use Rattle.aero_access.proofs.Outcomes.{not_true}
 use Rattle.aero_access.proofs.StateSteps.{IsStep, closing_told, none_judged, stands_after}
-use Rattle.aero_access.proofs.OwnSteps.{written, same_blocks_set, own_step, closed_from, closed_to}
+use Rattle.aero_access.proofs.OwnSteps.{same_blocks_set, own_step, closed_from, closed_to}
 use Rattle.aero_access.proofs.Events.{own_clock, same_clock, same_clocks, same_actors, plain_none, plain_moves}
 
 -- such an event is the last one of no slot that is kept
@@ -61,35 +61,6 @@ of_none t Exempt h (LastWrite x) k = refl
 of_none t Exempt h (LastRead x v) k = and_right (t == v) false refl
 of_none t Exempt h (LastRelease l) k = refl
 of_none t _ h _ k = cc
-
--- places of a list that pass
-place_of : (p : Numbered → Bool) (xs : List Numbered) → list_any p xs ≡ true → (i : ℕ) × (f : Numbered) × (i < length xs) × (slice_get xs i ≡ Some f) × (p f ≡ true)
-place_of p [] h = cc
-place_of p (x ∷ xs) h =
-    ⊎_elim
-    (λ e. (0, x, omega arith, refl, e))
-    (λ e. let r = place_of p xs e in (suc r.0, r.1, omega (arith, r.2), r.3, r.4))
-    (or_cases (p x) (list_any p xs) h)
-
-of_place : (p : Numbered → Bool) (xs : List Numbered) (i : ℕ) (f : Numbered) → slice_get xs i ≡ Some f → p f ≡ true → list_any p xs ≡ true
-of_place p [] i f at h = cc
-of_place p (x ∷ xs) zero f at h = or_left _ _ (ap p (same_Some x f at) ∙ h)
-of_place p (x ∷ xs) (suc i) f at h = or_right _ _ (of_place p xs i f at h)
-
-acted_place : (h : List Numbered) (e : Numbered) (u : ℕ) → has_acted h u ≡ true → HasActed (h ++ e ∷ []) (length h) u
-acted_place h e u acted =
-    let r = place_of (λ f. f.thread == u) h acted in
-    record {
-      place = r.0;
-      below = r.2;
-      event = r.1;
-      event_at = sym ((agree_front (length h) h (e ∷ []) (le_refl (length h))).same r.0 r.2) ∙ r.3;
-      thread = eqb-true r.1.thread u r.4;
-    }
-
-place_acted : (h : List Numbered) (e : Numbered) (u : ℕ) → HasActed (h ++ e ∷ []) (length h) u → has_acted h u ≡ true
-place_acted h e u a =
-    of_place (λ f. f.thread == u) h a.place a.event ((agree_front (length h) h (e ∷ []) (le_refl (length h))).same a.place a.below ∙ a.event_at) (eq-eqb a.event.thread u a.thread)
 
 module _ (threads : List Thread) (table : Table) (t : ℕ) (th : Thread) (at : slice_get threads t ≡ Some th) where
   abbrev w : State
@@ -204,20 +175,17 @@ module _ (threads : List Thread) (table : Table) (t : ℕ) (th : Thread) (at : s
       (idle_step what nothing none)
       (none_judged w h (event t what) ok stands (OfThread t ∷ []) takes ends (λ s m other inside le. plain_none threads table t th at s m other))
 
-  depth_more : (h : List Numbered) (e : Numbered) → depth (h ++ e ∷ []) t (length h) ≡ depth h t (length h)
-  depth_more h e = sym (depth_same h (h ++ e ∷ []) t (length h) (agree_front (length h) h (e ∷ []) (le_refl (length h))))
-
   pub idle_moves : (h : List Numbered) (what : What) → IsStateOf w h → IsWellFormed (h ++ event t what ∷ []) → IsIdle h t what → IsStateOf (acting w t) (h ++ event t what ∷ [])
   idle_moves h _ stands ok idle.exempt = idle_stands h Exempt stands ok (plain refl) (no_end h t Exempt refl) (no_begin h t Exempt refl) refl (λ v. refl)
   idle_moves h _ stands ok (idle.inner_begin inside) =
       idle_stands h (Begin None) stands ok (plain refl) (no_end h t (Begin None) refl)
       (and_right (by_thread t is_begin (slice_get (h ++ event t (Begin None) ∷ []) (length h))) (depth (h ++ event t (Begin None) ∷ []) t (length h) == 0)
-      (ne_eqb (depth (h ++ event t (Begin None) ∷ []) t (length h)) 0 (λ e. absurd (omega (arith, e, inside, depth_more h (event t (Begin None)))))))
+      (ne_eqb (depth (h ++ event t (Begin None) ∷ []) t (length h)) 0 (λ e. absurd (omega (arith, e, inside, depth_more h (event t (Begin None)) t)))))
       refl (λ v. refl)
   idle_moves h _ stands ok (idle.inner_end inside) =
       idle_stands h End stands ok (plain refl)
       (and_right (by_thread t is_end (slice_get (h ++ event t End ∷ []) (length h))) (depth (h ++ event t End ∷ []) t (length h) == 1)
-      (ne_eqb (depth (h ++ event t End ∷ []) t (length h)) 1 (λ e. absurd (omega (arith, e, inside, depth_more h (event t End))))))
+      (ne_eqb (depth (h ++ event t End ∷ []) t (length h)) 1 (λ e. absurd (omega (arith, e, inside, depth_more h (event t End) t)))))
       (no_begin h t End refl)
       refl (λ v. refl)
   idle_moves h _ stands ok (idle.idle_join u not_acted) =
@@ -238,7 +206,7 @@ module _ (threads : List Thread) (table : Table) (t : ℕ) (th : Thread) (at : s
         ap (λ a. by_thread t is_begin a && (depth (h ++ event t (Begin None) ∷ []) t (length h) == 0)) (slice_get-push h (event t (Begin None)))
         ∙ and_from _ _ (and_from (t == t) true (eq-eqb t t refl) refl)
         (eq-eqb (depth (h ++ event t (Begin None) ∷ []) t (length h)) 0
-        (let none : depth h t (length h) ≤ 0 = ltb-false 0 (depth h t (length h)) (sym (stands.in_block t) ∙ inside_is ∙ ap is_some outside) in omega (arith, none, depth_more h (event t (Begin None)))))
+        (let none : depth h t (length h) ≤ 0 = ltb-false 0 (depth h t (length h)) (sym (stands.in_block t) ∙ inside_is ∙ ap is_some outside) in omega (arith, none, depth_more h (event t (Begin None)) t)))
 
     swap_and : {X : Type 0} (b : Bool) (y z : X) → (if b then y else z) ≡ (if b && true then y else z)
     swap_and true y z = refl
@@ -249,15 +217,11 @@ module _ (threads : List Thread) (table : Table) (t : ℕ) (th : Thread) (at : s
       clock = clocks;
       actor = same_actors table t (number_at th.clock) (Begin None) (of_none t (Begin None) refl);
       acted = λ u. go_acted u (t == u) (written threads t th new at thread_acted u) (cases_eq t u);
-      begins = λ u. written threads t th new at thread_begins u ∙ go_begins u (cases_eq t u) ∙ swap_and (t == u) (thread_begins (slice_get threads u) + 1) (thread_begins (slice_get threads u));
+      begins = λ u. rewritten threads t th new at thread_begins (λ m. m + 1) u begins ∙ swap_and (t == u) (thread_begins (slice_get threads u) + 1) (thread_begins (slice_get threads u));
       in_block = λ u. written threads t th new at (λ o. is_some (thread_begin o)) u ∙ ap (λ b. if t == u then b else is_some (thread_begin (slice_get threads u))) open_now ∙ swap_and (t == u) true (is_some (thread_begin (slice_get threads u)));
       begin_clock = λ u v. written threads t th new at (λ o. number_in (thread_begin o) v) u ∙ go_clock u v (cases_eq t u) ∙ swap_and (t == u) (thread_clock (slice_get after u) v) (number_in (thread_begin (slice_get threads u)) v);
     }
       where
-        go_begins : (u : ℕ) → (t ≡ u) ⊎ (t ≡ u → ⊥) → (if t == u then new.begins else thread_begins (slice_get threads u)) ≡ (if t == u then thread_begins (slice_get threads u) + 1 else thread_begins (slice_get threads u))
-        go_begins u (inl e) = cond-true (t == u) _ _ (eq-eqb t u e) ∙ begins ∙ ap (λ m. m + 1) (sym (ap thread_begins at) ∙ ap (λ m. thread_begins (slice_get threads m)) e) ∙ sym (cond-true (t == u) _ _ (eq-eqb t u e))
-        go_begins u (inr ne) = cond-false (t == u) _ _ (ne_eqb t u ne) ∙ sym (cond-false (t == u) _ _ (ne_eqb t u ne))
-
         go_acted : (u : ℕ) (b : Bool) → thread_acted (slice_get after u) ≡ (if b then new.acted else thread_acted (slice_get threads u)) → (t ≡ u) ⊎ (t ≡ u → ⊥) → (if b then true else thread_acted (slice_get after u)) ≡ (if b then true else thread_acted (slice_get threads u))
         go_acted u true h c = refl
         go_acted u false h c = h

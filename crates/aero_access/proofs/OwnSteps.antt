@@ -1,8 +1,8 @@
 -- Steps of threads and a table, by what the code does to one thread and one slot.
-use Rattle.std.proofs.Common.{◌≡◌, ◌≢◌, ◌⊎◌, inl, inr, ⊎_elim, ℕ, ◌≤◌, List, [], ◌∷◌, ◌++◌, length, Option, Some, None, refl, sym, ap, ◌∙◌, subst, le_refl, arith}
+use Rattle.std.proofs.Common.{◌≡◌, ◌≢◌, ⊎_elim, ℕ, ◌≤◌, List, [], ◌∷◌, ◌++◌, length, Option, Some, None, refl, sym, ap, ◌∙◌, subst, le_refl, arith}
 use Rattle.std.specs.Prelude.{◌==◌, ◌&&◌, Bool, true, false, if◌then◌else◌, slice_get, slice_set, is_some, Contains}
-use Rattle.std.proofs.lemmas.Bool.{cases_eq, both_ways, eqb-true, eq-eqb, ne_eqb, cond-true, cond-false, and_right}
-use Rattle.std.proofs.lemmas.Option.{slice_get_within, same_Some}
+use Rattle.std.proofs.lemmas.Bool.{both_ways, eqb-true, eq-eqb, ne_eqb, cond-false, and_right}
+use Rattle.std.proofs.lemmas.Option.{same_Some}
 use Rattle.aero_clock.specs.declared.clock.Clock.{Clock}
 use Rattle.aero_clock.specs.Numbers.{number_at}
 use Rattle.aero_model.specs.declared.numbered.Numbered.{Numbered}
@@ -20,7 +20,7 @@ use Rattle.aero_engine.specs.Judgement.{IsTold}
 use Rattle.aero_engine.specs.Events.{actor_at, thread_of, event}
 use Rattle.aero_engine.proofs.LastEvents.{is_last}
 use Rattle.aero_engine.proofs.LongerTraces.{last_event_same, no_end, no_begin}
-use Rattle.aero_engine.proofs.Written.{slice_get-set}
+use Rattle.aero_engine.proofs.Written.{unwritten}
 use Rattle.aero_access.specs.declared.kept.Kept.{Kept}
 use Rattle.aero_access.specs.declared.thread.Thread.{Thread}
 use Rattle.aero_access.specs.declared.table.Table.{Table}
@@ -33,31 +33,17 @@ use Rattle.aero_access.proofs.StateSteps.{IsStep, closing_told, none_judged, sta
 
 -- one thread is written
 module _ (threads : List Thread) (t : ℕ) (th new : Thread) (at : slice_get threads t ≡ Some th) where
-  pub written : {X : Type 0} (f : Option Thread → X) (u : ℕ) → f (slice_get (slice_set threads t new) u) ≡ (if t == u then f (Some new) else f (slice_get threads u))
-  written f u = ap f (slice_get-set threads t new u (slice_get_within threads t th at)) ∙ into (t == u)
-    where
-      into : (b : Bool) → f (if b then Some new else slice_get threads u) ≡ (if b then f (Some new) else f (slice_get threads u))
-      into true = refl
-      into false = refl
-
-  pub unwritten : {X : Type 0} (f : Option Thread → X) (u : ℕ) → f (Some new) ≡ f (Some th) → f (slice_get (slice_set threads t new) u) ≡ f (slice_get threads u)
-  unwritten f u h = written f u ∙ go (cases_eq t u)
-    where
-      go : (t ≡ u) ⊎ (t ≡ u → ⊥) → (if t == u then f (Some new) else f (slice_get threads u)) ≡ f (slice_get threads u)
-      go (inl e) = cond-true (t == u) _ _ (eq-eqb t u e) ∙ h ∙ sym (ap f at) ∙ ap (λ v. f (slice_get threads v)) e
-      go (inr ne) = cond-false (t == u) _ _ (ne_eqb t u ne)
-
   -- where nothing of the clock that it takes is new, its own stays
   pub taken_nothing : (K : ℕ → ℕ) → TakesClock th new K → ((u : ℕ) → K u ≤ thread_clock (slice_get threads t) u) → (u : ℕ) → thread_clock (slice_get (slice_set threads t new) t) u ≡ thread_clock (slice_get threads t) u
   taken_nothing K takes le u =
       let own : thread_clock (slice_get threads t) u ≡ number_at th.clock u = ap (λ o. thread_clock o u) at in
-      unwritten (λ o. thread_clock o u) t (takes.clock u ∙ omega (arith, le u, own))
+      unwritten threads t th new at (λ o. thread_clock o u) t (takes.clock u ∙ omega (arith, le u, own))
 
   pub same_blocks_set : HasSameBlock th new → HaveSameBlocks threads (slice_set threads t new)
   same_blocks_set same = record {
-    begin = λ u. unwritten thread_begin u same.begin;
-    begins = λ u. unwritten thread_begins u same.begins;
-    acted = λ u. unwritten thread_acted u same.acted;
+    begin = λ u. unwritten threads t th new at thread_begin u same.begin;
+    begins = λ u. unwritten threads t th new at thread_begins u same.begins;
+    acted = λ u. unwritten threads t th new at thread_acted u same.acted;
   }
 
 -- an event that begins no block gives its thread the clock K, and a slot at most

@@ -9,6 +9,7 @@ use Rattle.aero_clock.specs.declared.clock.Clock.{Clock}
 use Rattle.aero_clock.specs.Numbers.{number_at}
 use Rattle.aero_engine.specs.declared.slot.Slot.{Slot}
 use Rattle.aero_engine.specs.declared.slot.Slot.TheVariants.{OfThread, LastWrite, LastRead, LastRelease}
+use Rattle.aero_engine.proofs.Written.{written}
 use Rattle.aero_access.specs.declared.kept.Kept.{Kept}
 use Rattle.aero_access.specs.declared.thread.Thread.{Thread}
 use Rattle.aero_access.specs.declared.table.Table.{Table}
@@ -19,7 +20,7 @@ use Rattle.aero_access.specs.TableWords.{kept_of, labels_of, JoinsSlot}
 use Rattle.aero_access.specs.StateWords.{clock_in, state_in, slot_or, slot_in, JoinsClock}
 use Rattle.aero_access.specs.Standing.{state_of, is_spent, closed_by, slot_at, ClosesBack, ClosesBlock, IsFinished}
 use Rattle.aero_access.proofs.KeptLists.{same_slot_is, same_slot_self}
-use Rattle.aero_access.proofs.OwnSteps.{written, closed_from, closed_to}
+use Rattle.aero_access.proofs.OwnSteps.{closed_from, closed_to}
 
 -- places of a list of labels
 pub labelled_at : (s : Slot) (labels : List Slot) (i : ℕ) → slice_get labels i ≡ Some s → list_any (same_slot s) labels ≡ true

@@ -1,13 +1,11 @@
 -- What is kept of a trace, after one more event that is no outermost end.
-use Rattle.std.proofs.Common.{◌≡◌, ◌≢◌, ◌⊎◌, inl, inr, ⊎_elim, ℕ, suc, ◌+◌, ◌<◌, ◌≤◌, List, [], ◌∷◌, ◌++◌, length, Option, Some, None, refl, sym, ap, ◌∙◌, subst, le_refl, arith, length-append}
-use Rattle.std.specs.Prelude.{◌==◌, ◌&&◌, ◌||◌, nat_lt, Bool, true, false, if◌then◌else◌, Contains}
-use Rattle.std.proofs.lemmas.Bool.{cases_Bool, cases_eq, both_ways, eqb-true, eq-eqb, ne_eqb, ltb-true, ltb-false, lt-ltb, le-ltb, cond-true, cond-false, and_left, and_parts}
-use Rattle.std.proofs.lemmas.List.Folds.{list_any-append}
+use Rattle.std.proofs.Common.{◌≡◌, ◌≢◌, ◌⊎◌, inl, inr, ⊎_elim, ℕ, suc, ◌+◌, ◌<◌, ◌≤◌, List, [], ◌∷◌, ◌++◌, length, Option, Some, None, refl, sym, ap, ◌∙◌, subst, le_refl, arith}
+use Rattle.std.specs.Prelude.{◌==◌, ◌&&◌, nat_lt, Bool, true, false, if◌then◌else◌, Contains}
+use Rattle.std.proofs.lemmas.Bool.{cases_Bool, eqb-true, ltb-true, lt-ltb, cond-true, cond-false, and_parts}
 use Rattle.aero_model.specs.declared.numbered.Numbered.{Numbered}
-use Rattle.aero_model.specs.Blocks.{is_begin, by_thread, depth, opens, closes, blocks}
-use Rattle.aero_model.specs.Shape.{IsWellFormed, has_acted}
-use Rattle.aero_model.proofs.Stability.{Agree, agree_front, depth_same, blocks_same}
-use Rattle.aero_model.proofs.Depths.{step, AtOpening, AtClosing, AtOther, opening_at}
+use Rattle.aero_model.specs.Blocks.{depth, opens, closes, blocks}
+use Rattle.aero_model.specs.Shape.{IsWellFormed}
+use Rattle.aero_model.proofs.Stability.{Agree, agree_front, depth_same}
 use Rattle.aero_model.proofs.Begins.{open_number}
 use Rattle.aero_engine.specs.declared.slot.Slot.{Slot}
 use Rattle.aero_engine.specs.declared.slot.Slot.TheVariants.{OfThread}
@@ -16,9 +14,10 @@ use Rattle.aero_engine.specs.Takes.{Takes}
 use Rattle.aero_engine.specs.Clocks.{Clock, AreSound, MissNothing, IsBeginClock, greatest, new_clock, new_clocks}
 use Rattle.aero_engine.specs.Judgement.{IsJudged, IsTold, IsUntold}
 use Rattle.aero_engine.specs.Events.{actor_at, thread_of}
-use Rattle.aero_engine.proofs.LastEvents.{to_thread, is_last, last_new, last_kept}
+use Rattle.aero_engine.proofs.LastEvents.{to_thread, last_new}
 use Rattle.aero_engine.proofs.Counts.{quiet_from}
-use Rattle.aero_engine.proofs.LongerTraces.{slice_get-push, last_event_same, begin_clock_same, sound_front, complete_front, sound_less, complete_greater}
+use Rattle.aero_engine.proofs.LongerTraces.{slice_get-push, begin_clock_same, sound_front, complete_front, sound_less, complete_greater}
+use Rattle.aero_engine.proofs.OneMore.{length_more, opens_by, begins_more, inside_more, acted_more, actor_kept}
 use Rattle.aero_engine.proofs.Rules.{begin_clock_at_most, begin_clock_event}
 use Rattle.aero_engine.proofs.BeginClocks.{begin_clock_kept}
 use Rattle.aero_engine.proofs.Pushes.{told_push, untold_push}
@@ -50,9 +49,6 @@ begin_clock_eq trace n t K L same b = record {
   counts = omega (arith, b.counts, same t);
 }
 
-positive : (d : ℕ) (b : Bool) → b ≡ nat_lt 0 d → b ≡ true → 0 < d
-positive d b h p = ltb-true 0 d (sym h ∙ p)
-
 module _ (old : State) (before : List Numbered) (e : Numbered) (ok : IsWellFormed (before ++ e ∷ [])) (stands : IsStateOf old before) where
   abbrev more : List Numbered
   more = before ++ e ∷ []
@@ -62,9 +58,6 @@ module _ (old : State) (before : List Numbered) (e : Numbered) (ok : IsWellForme
 
   agree : Agree n before more
   agree = agree_front n before (e ∷ []) (le_refl n)
-
-  length_more : suc n ≡ length more
-  length_more = omega (arith, length-append before (e ∷ []))
 
   sound : AreSound more n old.clock
   sound = sound_front before (e ∷ []) n (le_refl n) old.clock stands.untold.sound
@@ -121,101 +114,43 @@ module _ (old : State) (before : List Numbered) (e : Numbered) (ok : IsWellForme
             none = u.none;
           }
 
-      -- of the other threads nothing opens
-      opens_by : (t : ℕ) → opens more t n ≡ ((e.thread == t) && o)
-      opens_by t =
-          ⊎_elim
-          (λ same. ap (λ v. opens more v n) (sym same) ∙ opening ∙ ap (λ b. b && o) (sym (eq-eqb e.thread t same)))
-          (λ ne.
-          ap (λ a. by_thread t is_begin a && (depth more t n == 0)) (slice_get-push before e)
-          ∙ and_left _ _ (and_left (e.thread == t) (is_begin e.what) (ne_eqb e.thread t ne))
-          ∙ ap (λ b. b && o) (sym (ne_eqb e.thread t ne)))
-          (cases_eq e.thread t)
+      inside_new : (t : ℕ) → new.in_block t ≡ nat_lt 0 (depth more t (suc n))
+      inside_new t = after.in_block t ∙ inside_more before e t (old.in_block t) ((e.thread == t) && o) false (opens_by before e o opening t) (quiet_from more n e (slice_get-push before e) no_end t) (stands.in_block t)
 
-      -- of one thread
-      record Agrees (t : ℕ) : Type 0 where
-        begins : new.begins t ≡ blocks more t (suc n)
-        in_block : new.in_block t ≡ nat_lt 0 (depth more t (suc n))
-        begin_clock : new.in_block t ≡ true → IsBeginClock more (suc n) t (new.begin_clock t)
-
-      at_opening : (t : ℕ) → ((e.thread == t) && o) ≡ true → Agrees t
-      at_opening t b =
-          let p = and_parts (e.thread == t) o b in
-          let same : e.thread ≡ t = eqb-true e.thread t p.0 in
-          let up = opening_at more t n (opens_by t ∙ b) in
-          record {
-            begins = after.begins t ∙ cond-true ((e.thread == t) && o) _ _ b ∙ ap (λ m. m + 1) (stands.begins t ∙ blocks_same n before more agree t n (le_refl n)) ∙ sym up.number;
-            in_block = after.in_block t ∙ cond-true ((e.thread == t) && o) _ _ b ∙ sym (lt-ltb 0 (depth more t (suc n)) (omega (arith, up.after)));
-            begin_clock = λ inside.
-                begin_clock_eq more (suc n) t (new_clock more n e.thread (greatest old.clock ss)) (new.begin_clock t)
-                (λ u. after.begin_clock t u ∙ cond-true ((e.thread == t) && o) _ _ b ∙ clocks_new (OfThread t) u
-                ∙ ap (λ (f : Clock). f u) (cond-true (of_slot (OfThread t) e) _ _ (to_thread t e same)))
-                (subst (λ v. IsBeginClock more (suc n) v (new_clock more n e.thread (greatest old.clock ss))) same
-                (begin_clock_event more ok n e (slice_get-push before e) old.clock ss takes sound complete (opening ∙ p.1)));
-          }
-
-      at_other : (t : ℕ) → ((e.thread == t) && o) ≡ false → Agrees t
-      at_other t b = go (step more t n)
+      begin_clock_new : (t : ℕ) → new.in_block t ≡ true → IsBeginClock more (suc n) t (new.begin_clock t)
+      begin_clock_new t inside = ⊎_elim at_opening at_other (cases_Bool ((e.thread == t) && o))
         where
-          shut : opens more t n ≡ false
-          shut = opens_by t ∙ b
+          at_opening : ((e.thread == t) && o) ≡ true → IsBeginClock more (suc n) t (new.begin_clock t)
+          at_opening b =
+              let p = and_parts (e.thread == t) o b in
+              let same : e.thread ≡ t = eqb-true e.thread t p.0 in
+              begin_clock_eq more (suc n) t (new_clock more n e.thread (greatest old.clock ss)) (new.begin_clock t)
+              (λ u. after.begin_clock t u ∙ cond-true ((e.thread == t) && o) _ _ b ∙ clocks_new (OfThread t) u
+              ∙ ap (λ (f : Clock). f u) (cond-true (of_slot (OfThread t) e) _ _ (to_thread t e same)))
+              (subst (λ v. IsBeginClock more (suc n) v (new_clock more n e.thread (greatest old.clock ss))) same
+              (begin_clock_event more ok n e (slice_get-push before e) old.clock ss takes sound complete (opening ∙ p.1)))
 
-          was : new.in_block t ≡ old.in_block t
-          was = after.in_block t ∙ cond-false ((e.thread == t) && o) _ _ b
-
-          inside_is : AtOther more t n → (c : Bool) → old.in_block t ≡ c → c ≡ nat_lt 0 (depth more t (suc n))
-          inside_is s true h = sym (lt-ltb 0 (depth more t (suc n)) (s.inside (begun t h).is_open))
-          inside_is s false h =
-              let none : depth more t n ≤ 0 = ltb-false 0 (depth more t n) (ap (nat_lt 0) (sym (depth_same before more t n agree)) ∙ sym (stands.in_block t) ∙ h) in
-              sym (le-ltb 0 (depth more t (suc n)) (omega (arith, s.outside (omega arith))))
-
-          go : AtOpening more t n ⊎ (AtClosing more t n ⊎ AtOther more t n) → Agrees t
-          go (inl s) = absurd (both_ways (opens more t n) shut s.opens)
-          go (inr (inl s)) = absurd (both_ways (closes more t n) (quiet_from more n e (slice_get-push before e) no_end t) s.closes)
-          go (inr (inr s)) = record {
-            begins = after.begins t ∙ cond-false ((e.thread == t) && o) _ _ b ∙ stands.begins t ∙ blocks_same n before more agree t n (le_refl n) ∙ sym s.number;
-            in_block = was ∙ inside_is s (old.in_block t) refl;
-            begin_clock = λ inside.
-                let b_old = begun t (sym was ∙ inside) in
-                begin_clock_eq more (suc n) t (old.begin_clock t) (new.begin_clock t)
-                (λ u. after.begin_clock t u ∙ cond-false ((e.thread == t) && o) _ _ b)
-                (begin_clock_kept more n t (old.begin_clock t) b_old (s.inside b_old.is_open));
-          }
-
-      agrees : (t : ℕ) → Agrees t
-      agrees t = ⊎_elim (at_opening t) (at_other t) (cases_Bool ((e.thread == t) && o))
-
-      acted_new : (t : ℕ) → new.acted t ≡ has_acted more t
-      acted_new t =
-          after.acted t ∙ ap (λ b. if e.thread == t then true else b) (stands.acted t) ∙ either_one (e.thread == t) (has_acted before t)
-          ∙ sym (list_any-append (λ (f : Numbered). f.thread == t) before (e ∷ []))
-        where
-          either_one : (b c : Bool) → (if b then true else c) ≡ (c || (b || false))
-          either_one true true = refl
-          either_one true false = refl
-          either_one false true = refl
-          either_one false false = refl
+          at_other : ((e.thread == t) && o) ≡ false → IsBeginClock more (suc n) t (new.begin_clock t)
+          at_other b =
+              let was = begun t (sym (after.in_block t ∙ cond-false ((e.thread == t) && o) _ _ b) ∙ inside) in
+              begin_clock_eq more (suc n) t (old.begin_clock t) (new.begin_clock t)
+              (λ u. after.begin_clock t u ∙ cond-false ((e.thread == t) && o) _ _ b)
+              (begin_clock_kept more n t (old.begin_clock t) was (ltb-true 0 (depth more t (suc n)) (sym (inside_new t) ∙ inside)))
 
       actor_new : (s : Slot) → is_kept s ≡ true → new.actor s ≡ actor_at more (last_event more (suc n) s)
       actor_new s kept = after.actor s kept ∙ go (cases_Bool (of_slot s e))
         where
-          old_actor : (o : Option ℕ) → last_event more n s ≡ o → actor_at before o ≡ actor_at more o
-          old_actor None last = refl
-          old_actor (Some q) last = ap thread_of (agree.same q (is_last (of_slot s) more n q last).below)
-
           go : (of_slot s e ≡ true) ⊎ (of_slot s e ≡ false) → (if of_slot s e then Some e.thread else old.actor s) ≡ actor_at more (last_event more (suc n) s)
           go (inl b) =
               cond-true (of_slot s e) _ _ b ∙ sym (ap thread_of (slice_get-push before e)) ∙ sym (ap (actor_at more) (last_new (of_slot s) more n e (slice_get-push before e) b))
-          go (inr b) =
-              cond-false (of_slot s e) _ _ b ∙ stands.actor s kept ∙ ap (actor_at before) (last_event_same n before more agree s) ∙ old_actor (last_event more n s) refl
-              ∙ sym (ap (actor_at more) (last_kept (of_slot s) more n e (slice_get-push before e) b))
+          go (inr b) = cond-false (of_slot s e) _ _ b ∙ stands.actor s kept ∙ actor_kept before e s b
 
       pub stands_after : IsStateOf new more
       stands_after = record {
         untold = untold;
-        actor = λ s kept. actor_new s kept ∙ ap (λ m. actor_at more (last_event more m s)) length_more;
-        acted = acted_new;
-        begins = λ t. (agrees t).begins ∙ ap (blocks more t) length_more;
-        in_block = λ t. (agrees t).in_block ∙ ap (λ m. nat_lt 0 (depth more t m)) length_more;
-        begin_clock = λ t inside. subst (λ m. IsBeginClock more m t (new.begin_clock t)) length_more ((agrees t).begin_clock inside);
+        actor = λ s kept. actor_new s kept ∙ ap (λ m. actor_at more (last_event more m s)) (length_more before e);
+        acted = λ t. after.acted t ∙ acted_more before e t (old.acted t) (stands.acted t);
+        begins = λ t. after.begins t ∙ begins_more before e t (old.begins t) ((e.thread == t) && o) (opens_by before e o opening t) (stands.begins t) ∙ ap (blocks more t) (length_more before e);
+        in_block = λ t. inside_new t ∙ ap (λ m. nat_lt 0 (depth more t m)) (length_more before e);
+        begin_clock = λ t inside. subst (λ m. IsBeginClock more m t (new.begin_clock t)) (length_more before e) (begin_clock_new t inside);
       }

@@ -27,7 +27,8 @@ pub(crate) fn reach(threads: &mut Vec<Thread>, index: &mut Index, t: u32) -> Res
     ensures few { vec_len threads.new ≤ 2 ^ 32 }
     ensures same { AreSameThreads threads.old.items threads.new.items }
     ensures listed { OnOk result (t < vec_len index.new.blocks) }
-    ensures index { OnOk result ((table : Table) → IsIndex threads.old.items table index.old → IsIndex threads.new.items table index.new) }
+    ensures index { OnOk result ((table : Table) → IsIndex threads.old.items table index.old →
+        IsIndex threads.new.items table index.new) }
 {
     thread::reach(threads, t)?;
     index.reach(t)
@@ -43,10 +44,12 @@ pub(crate) fn read(
 ) -> Result<bool, AllocError>
     requires actor { t < length threads.old }
     requires heeded { AreHeeded (state_in threads.old table.old) }
-    ensures moves { IfOk result (Moves (state_in threads.old table.old) (state_in threads.new table.new) (event t (Read x))) }
+    ensures moves { IfOk result (Moves (state_in threads.old table.old)
+        (state_in threads.new table.new) (event t (Read x))) }
     ensures same { HaveSameBlocks threads.old threads.new }
     ensures heeded { AreHeeded (state_in threads.new table.new) }
-    ensures index { OnOk result (IsIndex threads.old table.old index.old → IsIndex threads.new table.new index.new) }
+    ensures index { OnOk result (IsIndex threads.old table.old index.old →
+        IsIndex threads.new table.new index.new) }
 {
     let news = has_news(threads, table, t, Slot::LastWrite(x));
     let closes = clock_rules::read(threads, table, index, t, x)?;
@@ -64,10 +67,12 @@ pub(crate) fn write(
 ) -> Result<bool, AllocError>
     requires actor { t < length threads.old }
     requires heeded { AreHeeded (state_in threads.old table.old) }
-    ensures moves { IfOk result (Moves (state_in threads.old table.old) (state_in threads.new table.new) (event t (Write x))) }
+    ensures moves { IfOk result (Moves (state_in threads.old table.old)
+        (state_in threads.new table.new) (event t (Write x))) }
     ensures same { HaveSameBlocks threads.old threads.new }
     ensures heeded { AreHeeded (state_in threads.new table.new) }
-    ensures index { OnOk result (IsIndex threads.old table.old index.old → IsIndex threads.new table.new index.new) }
+    ensures index { OnOk result (IsIndex threads.old table.old index.old →
+        IsIndex threads.new table.new index.new) }
 {
     let closes = clock_rules::write(threads, table, index, t, x)?;
     list(threads, index, t)?;
@@ -84,10 +89,12 @@ pub(crate) fn acquire(
 ) -> Result<bool, AllocError>
     requires actor { t < length threads.old }
     requires heeded { AreHeeded (state_in threads.old table.now) }
-    ensures moves { IfOk result (Moves (state_in threads.old table.now) (state_in threads.new table.now) (event t (Acquire l))) }
+    ensures moves { IfOk result (Moves (state_in threads.old table.now)
+        (state_in threads.new table.now) (event t (Acquire l))) }
     ensures same { HaveSameBlocks threads.old threads.new }
     ensures heeded { AreHeeded (state_in threads.new table.now) }
-    ensures index { OnOk result (IsIndex threads.old table.now index.old → IsIndex threads.new table.now index.new) }
+    ensures index { OnOk result (IsIndex threads.old table.now index.old →
+        IsIndex threads.new table.now index.new) }
 {
     let news = has_news(threads, table, t, Slot::LastRelease(l));
     let closes = clock_rules::acquire(threads, table, t, l)?;
@@ -107,10 +114,12 @@ pub(crate) fn fork(
     requires target { u < length threads.old }
     requires other { u ≢ t }
     requires heeded { AreHeeded (state_in threads.old table.now) }
-    ensures moves { OnOk result (Moves (state_in threads.old table.now) (state_in threads.new table.now) (event t (Fork u)) false) }
+    ensures moves { OnOk result (Moves (state_in threads.old table.now)
+        (state_in threads.new table.now) (event t (Fork u)) false) }
     ensures same { HaveSameBlocks threads.old threads.new }
     ensures heeded { AreHeeded (state_in threads.new table.now) }
-    ensures index { OnOk result (IsIndex threads.old table.now index.old → IsIndex threads.new table.now index.new) }
+    ensures index { OnOk result (IsIndex threads.old table.now index.old →
+        IsIndex threads.new table.now index.new) }
 {
     clock_rules::fork(threads, table, t, u)?;
     list(threads, index, u)
@@ -129,10 +138,12 @@ pub(crate) fn join(
     requires other { u ≢ t }
     requires acted { thread_acted (slice_get threads.old u) ≡ true }
     requires heeded { AreHeeded (state_in threads.old table.now) }
-    ensures moves { IfOk result (Moves (state_in threads.old table.now) (state_in threads.new table.now) (event t (Join u))) }
+    ensures moves { IfOk result (Moves (state_in threads.old table.now)
+        (state_in threads.new table.now) (event t (Join u))) }
     ensures same { HaveSameBlocks threads.old threads.new }
     ensures heeded { AreHeeded (state_in threads.new table.now) }
-    ensures index { OnOk result (IsIndex threads.old table.now index.old → IsIndex threads.new table.now index.new) }
+    ensures index { OnOk result (IsIndex threads.old table.now index.old →
+        IsIndex threads.new table.now index.new) }
 {
     let closes = clock_rules::join(threads, table, t, u)?;
     list(threads, index, t)?;
@@ -151,10 +162,12 @@ pub(crate) fn begin(
     requires outside { thread_begin (slice_get threads.old t) ≡ None }
     requires count { thread_begins (slice_get threads.old t) < 2 ^ 32 - 1 }
     requires heeded { AreHeeded (state_in threads.old table.now) }
-    ensures moves { OnOk result (Moves (state_in threads.old table.now) (state_in threads.new table.now) (event t (Begin None)) false) }
+    ensures moves { OnOk result (Moves (state_in threads.old table.now)
+        (state_in threads.new table.now) (event t (Begin None)) false) }
     ensures err { OnErr result (HaveSameBlocks threads.old threads.new) }
     ensures heeded { AreHeeded (state_in threads.new table.now) }
-    ensures index { OnOk result (IsIndex threads.old table.now index.old → IsIndex threads.new table.now index.new) }
+    ensures index { OnOk result (IsIndex threads.old table.now index.old →
+        IsIndex threads.new table.now index.new) }
 {
     index.open(t, threads[t as usize].begins + 1)?;
     clock_rules::begin(threads, table, t)
@@ -176,11 +189,20 @@ pub(crate) fn absorb(
     requires heeded { AreHeeded (state_in threads.old table.old) }
     ensures same { HaveSameBlocks threads.old threads.new }
     ensures labels { OnOk result (labels_of table.new ≡ labels_of table.old) }
-    ensures told { IfOk result (λ o. (u : ℕ) → (o ≡ Some u) ↔ ((slot_in threads.old table.old slot ≡ Slot.OfThread u) × IsClosedBy (thread_begin (slice_get threads.old u)) (thread_clock (slice_get threads.old t)))) }
-    ensures absorbed { IfOk result (λ o. o ≡ None → JoinsClock (state_in threads.old table.old) (state_in threads.new table.new) t (slot_in threads.old table.old slot)) }
+    ensures told { IfOk result (λ o. (u : ℕ) →
+        (o ≡ Some u) ↔ ((slot_in threads.old table.old slot ≡ Slot.OfThread u) ×
+        IsClosedBy (thread_begin (slice_get threads.old u))
+        (thread_clock (slice_get threads.old t)))) }
+    ensures absorbed { IfOk result (λ o. o ≡ None →
+        JoinsClock (state_in threads.old table.old) (state_in threads.new table.new) t
+        (slot_in threads.old table.old slot)) }
     ensures heeded { AreHeeded (state_in threads.new table.new) }
-    ensures index { OnOk result (IsIndex threads.old table.old index.old → IsIndex threads.new table.new index.new) }
-    ensures still { OnOk result (IsIndex threads.old table.old index.old → leads (block_number (led_at index.old t)) (clock_in threads.old table.old (slot_in threads.old table.old slot) t) ≡ true → led_at index.new t ≡ led_at index.old t) }
+    ensures index { OnOk result (IsIndex threads.old table.old index.old →
+        IsIndex threads.new table.new index.new) }
+    ensures still { OnOk result (IsIndex threads.old table.old index.old →
+        leads (block_number (led_at index.old t))
+        (clock_in threads.old table.old (slot_in threads.old table.old slot) t) ≡ true →
+        led_at index.new t ≡ led_at index.old t) }
 {
     if is_past(threads, table, t, slot) {
         return Ok(None);
@@ -194,7 +216,9 @@ pub(crate) fn absorb(
 // Lists thread t for the blocks that lead to it now.
 fn list(threads: &[Thread], index: &mut Index, t: u32) -> Result<(), AllocError>
     requires { t < length threads.now }
-    ensures { OnOk result ((v : ℕ) → GainsThread (led_at index.old v) (led_at index.new v) t (thread_clock (slice_get threads.now t) v)) }
+    ensures { OnOk result ((v : ℕ) →
+        GainsThread (led_at index.old v) (led_at index.new v) t
+        (thread_clock (slice_get threads.now t) v)) }
 {
     index.gain_thread(t, &threads[t as usize].clock)
 }
@@ -219,7 +243,9 @@ fn list_news(
     closes: bool,
 ) -> Result<(), AllocError>
     requires { t < length threads.now }
-    ensures listed { OnOk result ((news || closes) ≡ true → (v : ℕ) → GainsThread (led_at index.old v) (led_at index.new v) t (thread_clock (slice_get threads.now t) v)) }
+    ensures listed { OnOk result ((news || closes) ≡ true → (v : ℕ) →
+        GainsThread (led_at index.old v) (led_at index.new v) t
+        (thread_clock (slice_get threads.now t) v)) }
     ensures same { (news || closes) ≡ false → index.new ≡ index.old }
 {
     if news || closes {
@@ -247,7 +273,9 @@ fn is_past(threads: &[Thread], table: &Table, t: u32, slot: usize) -> bool
 // The same of the thread that a slot is, if it is one.
 fn list_slot(threads: &[Thread], index: &mut Index, slot: usize) -> Result<(), AllocError>
     requires { length threads.now ≤ 2 ^ 32 }
-    ensures thread { OnOk result (slot < length threads.now → (v : ℕ) → GainsThread (led_at index.old v) (led_at index.new v) slot (thread_clock (slice_get threads.now slot) v)) }
+    ensures thread { OnOk result (slot < length threads.now → (v : ℕ) →
+        GainsThread (led_at index.old v) (led_at index.new v) slot
+        (thread_clock (slice_get threads.now slot) v)) }
     ensures label { length threads.now ≤ slot → index.new ≡ index.old }
 {
     if slot < threads.len() {
@@ -268,7 +296,10 @@ fn list_label(
     requires actor { t < length threads.now }
     requires slot { slot < length threads.now + length (labels_of table.now) }
     ensures thread { slot < length threads.now → index.new ≡ index.old }
-    ensures label { OnOk result (length threads.now ≤ slot → (v : ℕ) → GainsLabel (led_at index.old v) (led_at index.new v) (slot - length threads.now) (label_clock table.now (slot - length threads.now) v) (thread_clock (slice_get threads.now t) v)) }
+    ensures label { OnOk result (length threads.now ≤ slot → (v : ℕ) →
+        GainsLabel (led_at index.old v) (led_at index.new v) (slot - length threads.now)
+        (label_clock table.now (slot - length threads.now) v)
+        (thread_clock (slice_get threads.now t) v)) }
 {
     if slot < threads.len() {
         return Ok(());

@@ -33,9 +33,11 @@ pub(crate) fn read(
 ) -> Result<bool, AllocError>
     requires actor { t < length threads.old }
     requires heeded { AreHeeded (state_in threads.old table.old) }
-    ensures moves { IfOk result (Moves (state_in threads.old table.old) (state_in threads.new table.new) (event t (Read x))) }
+    ensures moves { IfOk result (Moves (state_in threads.old table.old)
+        (state_in threads.new table.new) (event t (Read x))) }
     ensures takes { OnOk result (TakesOnly t threads.old threads.new) }
-    ensures still { HasNoNews threads.old table.old t (Slot.LastWrite x) → IfOk result (λ closes. closes ≡ false → KeepsItsClock threads.old threads.new t) }
+    ensures still { HasNoNews threads.old table.old t (Slot.LastWrite x) →
+        IfOk result (λ closes. closes ≡ false → KeepsItsClock threads.old threads.new t) }
     ensures labels { OnOk result (KeepsLabels table.old table.new index.old index.new) }
     ensures same { HaveSameBlocks threads.old threads.new }
     ensures heeded { AreHeeded (state_in threads.new table.new) }
@@ -58,7 +60,8 @@ pub(crate) fn write(
 ) -> Result<bool, AllocError>
     requires actor { t < length threads.old }
     requires heeded { AreHeeded (state_in threads.old table.old) }
-    ensures moves { IfOk result (Moves (state_in threads.old table.old) (state_in threads.new table.new) (event t (Write x))) }
+    ensures moves { IfOk result (Moves (state_in threads.old table.old)
+        (state_in threads.new table.new) (event t (Write x))) }
     ensures takes { OnOk result (TakesOnly t threads.old threads.new) }
     ensures labels { OnOk result (KeepsLabels table.old table.new index.old index.new) }
     ensures same { HaveSameBlocks threads.old threads.new }
@@ -84,9 +87,11 @@ pub(crate) fn acquire(
 ) -> Result<bool, AllocError>
     requires actor { t < length threads.old }
     requires heeded { AreHeeded (state_in threads.old table.now) }
-    ensures moves { IfOk result (Moves (state_in threads.old table.now) (state_in threads.new table.now) (event t (Acquire l))) }
+    ensures moves { IfOk result (Moves (state_in threads.old table.now)
+        (state_in threads.new table.now) (event t (Acquire l))) }
     ensures takes { OnOk result (TakesOnly t threads.old threads.new) }
-    ensures still { HasNoNews threads.old table.now t (Slot.LastRelease l) → IfOk result (λ closes. closes ≡ false → KeepsItsClock threads.old threads.new t) }
+    ensures still { HasNoNews threads.old table.now t (Slot.LastRelease l) →
+        IfOk result (λ closes. closes ≡ false → KeepsItsClock threads.old threads.new t) }
     ensures same { HaveSameBlocks threads.old threads.new }
     ensures heeded { AreHeeded (state_in threads.new table.now) }
 {
@@ -103,7 +108,8 @@ pub(crate) fn release(
 ) -> Result<(), AllocError>
     requires actor { t < length threads.now }
     requires heeded { AreHeeded (state_in threads.now table.old) }
-    ensures moves { OnOk result (Moves (state_in threads.now table.old) (state_in threads.now table.new) (event t (Release l)) false) }
+    ensures moves { OnOk result (Moves (state_in threads.now table.old)
+        (state_in threads.now table.new) (event t (Release l)) false) }
     ensures labels { OnOk result (KeepsLabels table.old table.new index.old index.new) }
     ensures heeded { AreHeeded (state_in threads.now table.new) }
 {
@@ -116,7 +122,8 @@ pub(crate) fn fork(threads: &mut [Thread], table: &Table, t: u32, u: u32) -> Res
     requires target { u < length threads.old }
     requires other { u ≢ t }
     requires heeded { AreHeeded (state_in threads.old table.now) }
-    ensures moves { OnOk result (Moves (state_in threads.old table.now) (state_in threads.new table.now) (event t (Fork u)) false) }
+    ensures moves { OnOk result (Moves (state_in threads.old table.now)
+        (state_in threads.new table.now) (event t (Fork u)) false) }
     ensures takes { OnOk result (TakesOnly u threads.old threads.new) }
     ensures same { HaveSameBlocks threads.old threads.new }
     ensures heeded { AreHeeded (state_in threads.new table.now) }
@@ -137,7 +144,8 @@ pub(crate) fn join(
     requires other { u ≢ t }
     requires acted { thread_acted (slice_get threads.old u) ≡ true }
     requires heeded { AreHeeded (state_in threads.old table.now) }
-    ensures moves { IfOk result (Moves (state_in threads.old table.now) (state_in threads.new table.now) (event t (Join u))) }
+    ensures moves { IfOk result (Moves (state_in threads.old table.now)
+        (state_in threads.new table.now) (event t (Join u))) }
     ensures takes { OnOk result (TakesOnly t threads.old threads.new) }
     ensures same { HaveSameBlocks threads.old threads.new }
     ensures heeded { AreHeeded (state_in threads.new table.now) }
@@ -152,7 +160,8 @@ pub(crate) fn begin(threads: &mut [Thread], table: &Table, t: u32) -> Result<(),
     requires outside { thread_begin (slice_get threads.old t) ≡ None }
     requires count { thread_begins (slice_get threads.old t) < 2 ^ 32 - 1 }
     requires heeded { AreHeeded (state_in threads.old table.now) }
-    ensures moves { OnOk result (Moves (state_in threads.old table.now) (state_in threads.new table.now) (event t (Begin None)) false) }
+    ensures moves { OnOk result (Moves (state_in threads.old table.now)
+        (state_in threads.new table.now) (event t (Begin None)) false) }
     ensures opens { OnOk result (OpensBlock threads.old threads.new t) }
     ensures err { OnErr result (HaveSameBlocks threads.old threads.new) }
     ensures heeded { AreHeeded (state_in threads.new table.now) }
@@ -165,7 +174,8 @@ pub(crate) fn leads(threads: &[Thread], table: &Table, t: u32, slot: usize) -> b
     requires actor { t < length threads.now }
     requires slot { slot < length threads.now + length (labels_of table.now) }
     requires heeded { AreHeeded (state_in threads.now table.now) }
-    ensures { IsTrue result ↔ IsClosedBy (thread_begin (slice_get threads.now t)) (clock_in threads.now table.now (slot_in threads.now table.now slot)) }
+    ensures { IsTrue result ↔ IsClosedBy (thread_begin (slice_get threads.now t))
+        (clock_in threads.now table.now (slot_in threads.now table.now slot)) }
 {
     let thread = &threads[t as usize];
     if slot < threads.len() {
@@ -192,11 +202,20 @@ pub(crate) fn absorb(
     requires heeded { AreHeeded (state_in threads.old table.old) }
     ensures same { HaveSameBlocks threads.old threads.new }
     ensures labels { OnOk result (labels_of table.new ≡ labels_of table.old) }
-    ensures told { IfOk result (λ o. (u : ℕ) → (o ≡ Some u) ↔ ((slot_in threads.old table.old slot ≡ Slot.OfThread u) × IsClosedBy (thread_begin (slice_get threads.old u)) (thread_clock (slice_get threads.old t)))) }
-    ensures absorbed { IfOk result (λ o. o ≡ None → JoinsClock (state_in threads.old table.old) (state_in threads.new table.new) t (slot_in threads.old table.old slot)) }
+    ensures told { IfOk result (λ o. (u : ℕ) →
+        (o ≡ Some u) ↔ ((slot_in threads.old table.old slot ≡ Slot.OfThread u) ×
+        IsClosedBy (thread_begin (slice_get threads.old u))
+        (thread_clock (slice_get threads.old t)))) }
+    ensures absorbed { IfOk result (λ o. o ≡ None →
+        JoinsClock (state_in threads.old table.old) (state_in threads.new table.new) t
+        (slot_in threads.old table.old slot)) }
     ensures heeded { AreHeeded (state_in threads.new table.new) }
-    ensures thread { OnOk result (slot < length threads.old → TakesOnly slot threads.old threads.new × (table.new ≡ table.old)) }
-    ensures label { OnOk result (length threads.old ≤ slot → (threads.new ≡ threads.old) × ((s : Slot) → slice_get (labels_of table.old) (slot - length threads.old) ≡ Some s → JoinsSlot table.old table.new s (thread_clock (slice_get threads.old t)))) }
+    ensures thread { OnOk result (slot < length threads.old →
+        TakesOnly slot threads.old threads.new × (table.new ≡ table.old)) }
+    ensures label { OnOk result (length threads.old ≤ slot →
+        (threads.new ≡ threads.old) × ((s : Slot) →
+        slice_get (labels_of table.old) (slot - length threads.old) ≡ Some s →
+        JoinsSlot table.old table.new s (thread_clock (slice_get threads.old t)))) }
 {
     if slot < threads.len() {
         let clock = threads[t as usize].clock.copy()?;
@@ -210,13 +229,19 @@ pub(crate) fn absorb(
 
 // Takes the clocks of the variable's last reads by other threads.
 fn take_reads(thread: &mut Thread, table: &Table, t: u32, x: u32) -> Result<bool, AllocError>
-    requires { (i : ℕ) (k : Kept) → slice_get (readers_of table.now x) i ≡ Some k → CountIsTest thread.old t (number_at k.clock) }
-    ensures closing { IfOk result (λ closes. closes ≡ true → ClosesOne thread.old.begin t (readers_of table.now x)) }
-    ensures none { IfOk result (λ closes. closes ≡ false → ClosesNone thread.old.begin t (readers_of table.now x)) }
-    ensures takes { IfOk result (λ closes. closes ≡ false → TakesClock thread.old thread.new (greatest_but t (readers_of table.now x))) }
+    requires { (i : ℕ) (k : Kept) → slice_get (readers_of table.now x) i ≡ Some k →
+        CountIsTest thread.old t (number_at k.clock) }
+    ensures closing { IfOk result (λ closes. closes ≡ true →
+        ClosesOne thread.old.begin t (readers_of table.now x)) }
+    ensures none { IfOk result (λ closes. closes ≡ false →
+        ClosesNone thread.old.begin t (readers_of table.now x)) }
+    ensures takes { IfOk result (λ closes. closes ≡ false →
+        TakesClock thread.old thread.new (greatest_but t (readers_of table.now x))) }
     ensures same { HasSameBlock thread.old thread.new }
     ensures grows { (u : ℕ) → number_at thread.old.clock u ≤ number_at thread.new.clock u }
-    ensures heeds { (w : State) → Heeds w (number_at thread.old.clock) → ((i : ℕ) (k : Kept) → slice_get (readers_of table.now x) i ≡ Some k → Heeds w (number_at k.clock)) → Heeds w (number_at thread.new.clock) }
+    ensures heeds { (w : State) → Heeds w (number_at thread.old.clock) →
+        ((i : ℕ) (k : Kept) → slice_get (readers_of table.now x) i ≡ Some k →
+        Heeds w (number_at k.clock)) → Heeds w (number_at thread.new.clock) }
 {
     match table.readers(x) {
         Some(readers) => readers.give(thread, t),
@@ -226,12 +251,17 @@ fn take_reads(thread: &mut Thread, table: &Table, t: u32, x: u32) -> Result<bool
 
 // Takes the clock of the slot's last event, unless that is by thread t itself.
 fn take_last(thread: &mut Thread, table: &Table, t: u32, slot: Slot) -> Result<bool, AllocError>
-    requires { (k : Kept) → kept_of table.now slot ≡ Some k → CountIsTest thread.old t (number_at k.clock) }
-    ensures closing { IfOk result (λ closes. IsTrue closes ↔ ClosesLast thread.old.begin t (kept_of table.now slot)) }
-    ensures takes { IfOk result (λ closes. closes ≡ false → TakesClock thread.old thread.new (last_but t (kept_of table.now slot))) }
+    requires { (k : Kept) → kept_of table.now slot ≡ Some k →
+        CountIsTest thread.old t (number_at k.clock) }
+    ensures closing { IfOk result (λ closes. IsTrue closes ↔
+        ClosesLast thread.old.begin t (kept_of table.now slot)) }
+    ensures takes { IfOk result (λ closes. closes ≡ false →
+        TakesClock thread.old thread.new (last_but t (kept_of table.now slot))) }
     ensures same { HasSameBlock thread.old thread.new }
     ensures grows { (u : ℕ) → number_at thread.old.clock u ≤ number_at thread.new.clock u }
-    ensures heeds { (w : State) → Heeds w (number_at thread.old.clock) → ((k : Kept) → kept_of table.now slot ≡ Some k → Heeds w (number_at k.clock)) → Heeds w (number_at thread.new.clock) }
+    ensures heeds { (w : State) → Heeds w (number_at thread.old.clock) →
+        ((k : Kept) → kept_of table.now slot ≡ Some k → Heeds w (number_at k.clock)) →
+        Heeds w (number_at thread.new.clock) }
 {
     match table.get(slot) {
         Some(kept) => kept.give(thread, t),
@@ -248,7 +278,9 @@ fn note(
     place: u32,
     clock: &Clock,
 ) -> Result<(), AllocError>
-    ensures { OnOk result ((v : ℕ) → MovesLabel (led_at index.old v) (led_at index.new v) place (kept_clock (kept_of table.now slot) v) (number_at clock.now v)) }
+    ensures { OnOk result ((v : ℕ) →
+        MovesLabel (led_at index.old v) (led_at index.new v) place
+        (kept_clock (kept_of table.now slot) v) (number_at clock.now v)) }
 {
     match table.get(slot) {
         Some(kept) => index.move_label(place, &kept.clock, clock),
@@ -267,7 +299,9 @@ fn keep(
     requires kept { is_kept slot ≡ true }
     requires reader { (x u : ℕ) → slot ≡ Slot.LastRead x u → t ≡ u }
     ensures keeps { OnOk result (KeepsClock table.old table.new slot t (number_at thread.now.clock)) }
-    ensures heeds { (w : State) → Heeds w (number_at thread.now.clock) → ((s : Slot) → Heeds w (kept_clock (kept_of table.old s))) → (s : Slot) → Heeds w (kept_clock (kept_of table.new s)) }
+    ensures heeds { (w : State) → Heeds w (number_at thread.now.clock) →
+        ((s : Slot) → Heeds w (kept_clock (kept_of table.old s))) → (s : Slot) →
+        Heeds w (kept_clock (kept_of table.new s)) }
     ensures labels { OnOk result (KeepsLabels table.old table.new index.old index.new) }
 {
     let place = table.place(slot)?;

@@ -146,7 +146,8 @@ impl Clocks {
         requires fresh { acted_at self.old u ≡ false }
         ensures answers { Answers self.old self.new result }
         ensures follows { Follows self.old self.new (event t (Fork u)) result }
-        ensures named { OnOk result (threads_of self.new ≡ max (threads_of self.old) ((max t u) + 1)) }
+        ensures named { OnOk result (threads_of self.new ≡
+            max (threads_of self.old) ((max t u) + 1)) }
     {
         self.start(t.max(u))?;
         changes::fork(&mut self.threads, &self.table, &mut self.index, t, u)?;
@@ -160,7 +161,8 @@ impl Clocks {
         requires acted { acted_at self.old u ≡ true }
         ensures answers { Answers self.old self.new result }
         ensures follows { Follows self.old self.new (event t (Join u)) result }
-        ensures named { OnOk result (threads_of self.new ≡ max (threads_of self.old) ((max t u) + 1)) }
+        ensures named { OnOk result (threads_of self.new ≡
+            max (threads_of self.old) ((max t u) + 1)) }
     {
         self.start(t.max(u))?;
         let closes = changes::join(&mut self.threads, &self.table, &mut self.index, t, u)?;
@@ -210,8 +212,10 @@ impl Clocks {
     pub fn slots(&self) -> usize
         ensures count { result ≡ slots_of self.now }
         ensures first { (n : ℕ) → n < threads_of self.now → slot_at self.now n ≡ Slot.OfThread n }
-        ensures behind { (n t : ℕ) → threads_of self.now ≤ n → n < result → slot_at self.now n ≢ Slot.OfThread t }
-        ensures all { (s : Slot) (u : ℕ) → 0 < clock_of self.now s u → (n : ℕ) × (n < result) × (slot_at self.now n ≡ s) }
+        ensures behind { (n t : ℕ) → threads_of self.now ≤ n → n < result →
+            slot_at self.now n ≢ Slot.OfThread t }
+        ensures all { (s : Slot) (u : ℕ) → 0 < clock_of self.now s u →
+            (n : ℕ) × (n < result) × (slot_at self.now n ≡ s) }
     {
         self.threads.len() + self.table.len()
     }
@@ -258,9 +262,12 @@ impl Clocks {
         requires other { slot ≢ t }
         ensures answers { Answers self.old self.new result }
         ensures tests { HaveSameTests self.old self.new }
-        ensures told { IfOk result (λ o. (u : ℕ) → (o ≡ Some u) ↔ ClosesBack self.old t (slot_at self.old slot) u) }
-        ensures absorbed { IfOk result (λ o. o ≡ None → AbsorbsClock self.old self.new t (slot_at self.old slot)) }
-        ensures led { IsBehind self.old t (clock_of self.old (slot_at self.old slot)) → IfOk result (λ o. o ≡ None → led_of self.new t ≡ led_of self.old t) }
+        ensures told { IfOk result (λ o. (u : ℕ) →
+            (o ≡ Some u) ↔ ClosesBack self.old t (slot_at self.old slot) u) }
+        ensures absorbed { IfOk result (λ o. o ≡ None →
+            AbsorbsClock self.old self.new t (slot_at self.old slot)) }
+        ensures led { IsBehind self.old t (clock_of self.old (slot_at self.old slot)) →
+            IfOk result (λ o. o ≡ None → led_of self.new t ≡ led_of self.old t) }
         ensures threads { threads_of self.new ≡ threads_of self.old }
     {
         if self.spent {

@@ -83,7 +83,9 @@ impl Entries {
         requires reader { (x t : ℕ) → slot ≡ Slot.LastRead x t → kept.thread ≡ t }
         ensures ok { OnOk result (KeepsIn self.old self.new slot kept) }
         ensures err { OnErr result (KeepsAll self.old self.new) }
-        ensures labels_ok { OnOk result (self.new.labels.items ≡ (if is_new then self.old.labels.items ++ slot ∷ [] else self.old.labels.items)) }
+        ensures labels_ok { OnOk result
+            (self.new.labels.items ≡ (if is_new then self.old.labels.items ++
+            slot ∷ [] else self.old.labels.items)) }
         ensures labels_err { OnErr result (self.new.labels.items ≡ self.old.labels.items) }
     {
         self.labels.reserve(1)?;

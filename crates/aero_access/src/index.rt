@@ -116,7 +116,8 @@ fn gain_thread_at(leds: &mut [Led], s: u32, u: u32, n: u32) -> Result<(), AllocE
 
 // Lists thread s, which has this clock, for each block that leads to it.
 fn gain_thread(leds: &mut [Led], s: u32, clock: &Clock) -> Result<(), AllocError>
-    ensures { OnOk result ((v : ℕ) → GainsThread (slice_get leds.old v) (slice_get leds.new v) s (number_at clock.now v)) }
+    ensures { OnOk result ((v : ℕ) →
+        GainsThread (slice_get leds.old v) (slice_get leds.new v) s (number_at clock.now v)) }
 {
     let pairs = clock.pairs();
     for i in 0..pairs.len() {
@@ -128,7 +129,8 @@ fn gain_thread(leds: &mut [Led], s: u32, clock: &Clock) -> Result<(), AllocError
 
 // Lists the label at this place for thread u, if u's block leads to its slot now, and didn't.
 fn gain_label_at(leds: &mut [Led], place: u32, u: u32, was: u32, n: u32) -> Result<(), AllocError>
-    ensures here { OnOk result (GainsLabel (slice_get leds.old u) (slice_get leds.new u) place was n) }
+    ensures here { OnOk result (GainsLabel (slice_get leds.old u) (slice_get leds.new u) place was
+        n) }
     ensures others { (v : ℕ) → v ≢ u → slice_get leds.new v ≡ slice_get leds.old v }
 {
     if was < n && (u as usize) < leds.len() {
@@ -151,7 +153,9 @@ fn number_near(clock: &Clock, pairs: &[(u32, u32)], at: usize, u: u32) -> u32
 
 // Lists the label at this place for each block that leads to its slot now, and didn't.
 fn gain_label(leds: &mut [Led], place: u32, was: &Clock, clock: &Clock) -> Result<(), AllocError>
-    ensures { OnOk result ((v : ℕ) → GainsLabel (slice_get leds.old v) (slice_get leds.new v) place (number_at was.now v) (number_at clock.now v)) }
+    ensures { OnOk result ((v : ℕ) →
+        GainsLabel (slice_get leds.old v) (slice_get leds.new v) place (number_at was.now v)
+        (number_at clock.now v)) }
 {
     let before = was.pairs();
     let pairs = clock.pairs();
@@ -180,7 +184,9 @@ fn move_label(
     none: &Clock,
 ) -> Result<(), AllocError>
     requires { IsZero none.now }
-    ensures { OnOk result ((v : ℕ) → MovesLabel (slice_get leds.old v) (slice_get leds.new v) place (number_at was.now v) (number_at clock.now v)) }
+    ensures { OnOk result ((v : ℕ) →
+        MovesLabel (slice_get leds.old v) (slice_get leds.new v) place (number_at was.now v)
+        (number_at clock.now v)) }
 {
     if was.at_most(clock) {
         return gain_label(leds, place, was, clock);
@@ -192,7 +198,8 @@ fn move_label(
 // The same of a label that is new.
 fn new_label(leds: &mut [Led], place: u32, clock: &Clock, none: &Clock) -> Result<(), AllocError>
     requires { IsZero none.now }
-    ensures { OnOk result ((v : ℕ) → MovesLabel (slice_get leds.old v) (slice_get leds.new v) place 0 (number_at clock.now v)) }
+    ensures { OnOk result ((v : ℕ) →
+        MovesLabel (slice_get leds.old v) (slice_get leds.new v) place 0 (number_at clock.now v)) }
 {
     gain_label(leds, place, none, clock)
 }
@@ -251,7 +258,8 @@ impl Index {
     /// Lists thread `s`, which has this clock, for each block that leads to it. Where a thread
     /// isn't listed already, this takes memory.
     pub(crate) fn gain_thread(&mut self, s: u32, clock: &Clock) -> Result<(), AllocError>
-        ensures { OnOk result ((v : ℕ) → GainsThread (led_at self.old v) (led_at self.new v) s (number_at clock.now v)) }
+        ensures { OnOk result ((v : ℕ) →
+            GainsThread (led_at self.old v) (led_at self.new v) s (number_at clock.now v)) }
     {
         gain_thread(&mut self.blocks, s, clock)
     }
@@ -264,7 +272,9 @@ impl Index {
         was: &Clock,
         clock: &Clock,
     ) -> Result<(), AllocError>
-        ensures { OnOk result ((v : ℕ) → GainsLabel (led_at self.old v) (led_at self.new v) place (number_at was.now v) (number_at clock.now v)) }
+        ensures { OnOk result ((v : ℕ) →
+            GainsLabel (led_at self.old v) (led_at self.new v) place (number_at was.now v)
+            (number_at clock.now v)) }
     {
         gain_label(&mut self.blocks, place, was, clock)
     }
@@ -277,7 +287,9 @@ impl Index {
         was: &Clock,
         clock: &Clock,
     ) -> Result<(), AllocError>
-        ensures { OnOk result ((v : ℕ) → MovesLabel (led_at self.old v) (led_at self.new v) place (number_at was.now v) (number_at clock.now v)) }
+        ensures { OnOk result ((v : ℕ) →
+            MovesLabel (led_at self.old v) (led_at self.new v) place (number_at was.now v)
+            (number_at clock.now v)) }
     {
         let none = Clock::new(*self.blocks.allocator());
         move_label(&mut self.blocks, place, was, clock, &none)
@@ -286,7 +298,8 @@ impl Index {
     /// Lists the label at this place, which is new, for the blocks that lead to its slot by this
     /// clock.
     pub(crate) fn new_label(&mut self, place: u32, clock: &Clock) -> Result<(), AllocError>
-        ensures { OnOk result ((v : ℕ) → MovesLabel (led_at self.old v) (led_at self.new v) place 0 (number_at clock.now v)) }
+        ensures { OnOk result ((v : ℕ) →
+            MovesLabel (led_at self.old v) (led_at self.new v) place 0 (number_at clock.now v)) }
     {
         let none = Clock::new(*self.blocks.allocator());
         new_label(&mut self.blocks, place, clock, &none)

@@ -24,11 +24,14 @@ impl Kept {
     /// then it returns true.
     pub(crate) fn give(&self, thread: &mut Thread, t: u32) -> Result<bool, AllocError>
         requires { CountIsTest thread.old t (number_at self.now.clock) }
-        ensures closing { IfOk result (λ closes. IsTrue closes ↔ ((self.now.thread ≢ t) × IsClosedBy thread.old.begin (number_at self.now.clock))) }
-        ensures takes { IfOk result (λ closes. closes ≡ false → TakesClock thread.old thread.new (clock_but t self.now)) }
+        ensures closing { IfOk result (λ closes. IsTrue closes ↔
+            ((self.now.thread ≢ t) × IsClosedBy thread.old.begin (number_at self.now.clock))) }
+        ensures takes { IfOk result (λ closes. closes ≡ false →
+            TakesClock thread.old thread.new (clock_but t self.now)) }
         ensures same { HasSameBlock thread.old thread.new }
         ensures grows { (u : ℕ) → number_at thread.old.clock u ≤ number_at thread.new.clock u }
-        ensures heeds { (w : State) → Heeds w (number_at thread.old.clock) → Heeds w (number_at self.now.clock) → Heeds w (number_at thread.new.clock) }
+        ensures heeds { (w : State) → Heeds w (number_at thread.old.clock) →
+            Heeds w (number_at self.now.clock) → Heeds w (number_at thread.new.clock) }
     {
         if self.thread == t {
             return Ok(false);

@@ -26,8 +26,11 @@ pub(crate) fn put(
     number: u32,
     entry: Kept,
 ) -> Result<Option<Kept>, AllocError>
-    ensures ok { OnOk result ((n : ℕ) → flat (slice_get kept.new.items n) ≡ (if number == n then Some entry else flat (slice_get kept.old.items n))) }
-    ensures err { OnErr result ((n : ℕ) → flat (slice_get kept.new.items n) ≡ flat (slice_get kept.old.items n)) }
+    ensures ok { OnOk result ((n : ℕ) →
+        flat (slice_get kept.new.items n) ≡
+        (if number == n then Some entry else flat (slice_get kept.old.items n))) }
+    ensures err { OnErr result ((n : ℕ) →
+        flat (slice_get kept.new.items n) ≡ flat (slice_get kept.old.items n)) }
 {
     make_room(kept, number)?;
     Ok(mem::replace(&mut kept[number as usize], Some(entry)))
@@ -50,8 +53,13 @@ pub(crate) fn put_read(
     x: u32,
     kept: Kept,
 ) -> Result<Option<Kept>, AllocError>
-    ensures ok { OnOk result ((y t : ℕ) → find (is_by t) (readers_in (slice_get reads.new.items y)) ≡ (if (x == y) && (kept.thread == t) then Some kept else find (is_by t) (readers_in (slice_get reads.old.items y)))) }
-    ensures err { OnErr result ((y t : ℕ) → find (is_by t) (readers_in (slice_get reads.new.items y)) ≡ find (is_by t) (readers_in (slice_get reads.old.items y))) }
+    ensures ok { OnOk result ((y t : ℕ) →
+        find (is_by t) (readers_in (slice_get reads.new.items y)) ≡
+        (if (x == y) && (kept.thread == t) then Some kept else find (is_by t)
+        (readers_in (slice_get reads.old.items y)))) }
+    ensures err { OnErr result ((y t : ℕ) →
+        find (is_by t) (readers_in (slice_get reads.new.items y)) ≡
+        find (is_by t) (readers_in (slice_get reads.old.items y))) }
 {
     reach(reads, x)?;
     reads[x as usize].set(kept)
@@ -59,7 +67,8 @@ pub(crate) fn put_read(
 
 fn reach(reads: &mut Vec<Readers>, number: u32) -> Result<(), AllocError>
     ensures room { OnOk result (number < vec_len reads.new) }
-    ensures same { (n : ℕ) → readers_in (slice_get reads.new.items n) ≡ readers_in (slice_get reads.old.items n) }
+    ensures same { (n : ℕ) → readers_in (slice_get reads.new.items n) ≡
+        readers_in (slice_get reads.old.items n) }
 {
     let at = number as usize;
     while reads.len() <= at {

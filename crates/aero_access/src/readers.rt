@@ -42,7 +42,9 @@ impl Readers {
 
     /// Keeps this of the last read by its thread, and gives back what was kept of it.
     pub(crate) fn set(&mut self, kept: Kept) -> Result<Option<Kept>, AllocError>
-        ensures ok { OnOk result ((t : ℕ) → find (is_by t) self.new.kept.items ≡ (if kept.thread == t then Some kept else find (is_by t) self.old.kept.items)) }
+        ensures ok { OnOk result ((t : ℕ) →
+            find (is_by t) self.new.kept.items ≡
+            (if kept.thread == t then Some kept else find (is_by t) self.old.kept.items)) }
         ensures err { OnErr result (self.new.kept.items ≡ self.old.kept.items) }
     {
         match place_by(&self.kept, kept.thread) {
@@ -57,13 +59,19 @@ impl Readers {
     /// Thread `t` takes the clocks of the others, up to one that closes a telling cycle: then it
     /// returns true.
     pub(crate) fn give(&self, thread: &mut Thread, t: u32) -> Result<bool, AllocError>
-        requires { (i : ℕ) (k : Kept) → slice_get self.now.kept.items i ≡ Some k → CountIsTest thread.old t (number_at k.clock) }
-        ensures closing { IfOk result (λ closes. closes ≡ true → ClosesOne thread.old.begin t self.now.kept.items) }
-        ensures none { IfOk result (λ closes. closes ≡ false → ClosesNone thread.old.begin t self.now.kept.items) }
-        ensures takes { IfOk result (λ closes. closes ≡ false → TakesClock thread.old thread.new (greatest_but t self.now.kept.items)) }
+        requires { (i : ℕ) (k : Kept) → slice_get self.now.kept.items i ≡ Some k →
+            CountIsTest thread.old t (number_at k.clock) }
+        ensures closing { IfOk result (λ closes. closes ≡ true →
+            ClosesOne thread.old.begin t self.now.kept.items) }
+        ensures none { IfOk result (λ closes. closes ≡ false →
+            ClosesNone thread.old.begin t self.now.kept.items) }
+        ensures takes { IfOk result (λ closes. closes ≡ false →
+            TakesClock thread.old thread.new (greatest_but t self.now.kept.items)) }
         ensures same { HasSameBlock thread.old thread.new }
         ensures grows { (u : ℕ) → number_at thread.old.clock u ≤ number_at thread.new.clock u }
-        ensures heeds { (w : State) → Heeds w (number_at thread.old.clock) → ((i : ℕ) (k : Kept) → slice_get self.now.kept.items i ≡ Some k → Heeds w (number_at k.clock)) → Heeds w (number_at thread.new.clock) }
+        ensures heeds { (w : State) → Heeds w (number_at thread.old.clock) →
+            ((i : ℕ) (k : Kept) → slice_get self.now.kept.items i ≡ Some k →
+            Heeds w (number_at k.clock)) → Heeds w (number_at thread.new.clock) }
     {
         for kept in self.kept.iter() {
             if kept.give(thread, t)? {

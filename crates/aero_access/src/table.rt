@@ -79,7 +79,9 @@ impl Table {
         requires label { label ≡ place_of self.old slot }
         ensures ok { OnOk result (KeepsClock self.old self.new slot thread (number_at clock.now)) }
         ensures err { OnErr result ((s : Slot) → kept_of self.new s ≡ kept_of self.old s) }
-        ensures labels { OnOk result (labels_of self.new ≡ (if is_some (kept_of self.old slot) then labels_of self.old else labels_of self.old ++ slot ∷ [])) }
+        ensures labels { OnOk result (labels_of self.new ≡
+            (if is_some (kept_of self.old slot) then labels_of self.old else labels_of self.old ++
+            slot ∷ [])) }
     {
         let none = Clock::new(*self.entries.labels.allocator());
         let mut copied = mem::replace(&mut self.spare, none);
@@ -101,7 +103,9 @@ impl Table {
         requires label { kept.label ≡ place_of self.old slot }
         ensures ok { OnOk result (Keeps self.old self.new slot kept) }
         ensures err { OnErr result ((s : Slot) → kept_of self.new s ≡ kept_of self.old s) }
-        ensures labels { OnOk result (labels_of self.new ≡ (if is_some (kept_of self.old slot) then labels_of self.old else labels_of self.old ++ slot ∷ [])) }
+        ensures labels { OnOk result (labels_of self.new ≡
+            (if is_some (kept_of self.old slot) then labels_of self.old else labels_of self.old ++
+            slot ∷ [])) }
     {
         let is_new = self.get(slot).is_none();
         let replaced = self.entries.keep_labelled(slot, is_new, kept)?;
@@ -139,7 +143,8 @@ impl Table {
     /// Whether this clock is at most the one that is kept of the slot in every place, so that a join
     /// changes nothing.
     pub(crate) fn is_past(&self, slot: Slot, clock: &Clock) -> bool
-        ensures { IsTrue result → (u : ℕ) → number_at clock.now u ≤ kept_clock (kept_of self.now slot) u }
+        ensures { IsTrue result → (u : ℕ) →
+            number_at clock.now u ≤ kept_clock (kept_of self.now slot) u }
     {
         match self.get(slot) {
             Some(kept) => clock.at_most(&kept.clock),

@@ -48,11 +48,14 @@ impl Thread {
     /// true.
     pub(crate) fn take(&mut self, t: u32, clock: &Clock) -> Result<bool, AllocError>
         requires { CountIsTest self.old t (number_at clock.now) }
-        ensures closing { IfOk result (λ closes. IsTrue closes ↔ IsClosedBy self.old.begin (number_at clock.now)) }
-        ensures takes { IfOk result (λ closes. closes ≡ false → TakesClock self.old self.new (number_at clock.now)) }
+        ensures closing { IfOk result (λ closes. IsTrue closes ↔
+            IsClosedBy self.old.begin (number_at clock.now)) }
+        ensures takes { IfOk result (λ closes. closes ≡ false →
+            TakesClock self.old self.new (number_at clock.now)) }
         ensures same { HasSameBlock self.old self.new }
         ensures grows { (u : ℕ) → number_at self.old.clock u ≤ number_at self.new.clock u }
-        ensures heeds { (w : State) → Heeds w (number_at self.old.clock) → Heeds w (number_at clock.now) → Heeds w (number_at self.new.clock) }
+        ensures heeds { (w : State) → Heeds w (number_at self.old.clock) →
+            Heeds w (number_at clock.now) → Heeds w (number_at self.new.clock) }
     {
         if self.is_closed_by(t, clock) {
             return Ok(true);
@@ -66,7 +69,8 @@ impl Thread {
         ensures ok { OnOk result (TakesClock self.old self.new (number_at clock.now)) }
         ensures same { HasSameBlock self.old self.new }
         ensures grows { (u : ℕ) → number_at self.old.clock u ≤ number_at self.new.clock u }
-        ensures heeds { (w : State) → Heeds w (number_at self.old.clock) → Heeds w (number_at clock.now) → Heeds w (number_at self.new.clock) }
+        ensures heeds { (w : State) → Heeds w (number_at self.old.clock) →
+            Heeds w (number_at clock.now) → Heeds w (number_at self.new.clock) }
     {
         self.clock.join(clock)
     }
@@ -77,12 +81,14 @@ impl Thread {
         requires begins { self.old.begins < 2 ^ 32 - 1 }
         requires number { number_at self.old.clock t < 2 ^ 32 - 1 }
         ensures raised { OnOk result (IsRaised self.new.clock self.old.clock t) }
-        ensures begin { OnOk result ((u : ℕ) → number_in self.new.begin u ≡ number_at self.new.clock u) }
+        ensures begin { OnOk result ((u : ℕ) →
+            number_in self.new.begin u ≡ number_at self.new.clock u) }
         ensures open { OnOk result (IsSome self.new.begin) }
         ensures begins { OnOk result (self.new.begins ≡ self.old.begins + 1) }
         ensures acted { self.new.acted ≡ self.old.acted }
         ensures err { OnErr result (HasSameBlock self.old self.new) }
-        ensures err_clock { OnErr result ((u : ℕ) → number_at self.new.clock u ≡ number_at self.old.clock u) }
+        ensures err_clock { OnErr result ((u : ℕ) →
+            number_at self.new.clock u ≡ number_at self.old.clock u) }
     {
         let mut begin = self.clock.copy()?;
         begin.raise(t)?;

@@ -22,14 +22,14 @@ use Rattle.aero_intake.specs.Held.{Known, IsDecisive}
 use Rattle.aero_intake.specs.Intake.{Taking, IsTaken, HaveCome, Ends, with_passing, fed_all}
 use Rattle.aero_intake.specs.Source.{Sight, WasRead}
 use Rattle.aero_batch.specs.Steps.{TakesPiece, NotesEnding, CutsHeld, PassesOver, PassesOn, StopsReading, IsReadFrom, DecidesThere, HasDecided, HasEnough, IsWanted}
-use Rattle.aero_batch.specs.Steps.{with_block, last_of, ended_track}
+use Rattle.aero_batch.specs.Steps.{with_chunk, last_of, ended_track}
 use Rattle.aero_intake.specs.Stories.{Story, AreEnough, BeginAlike, Suffices, IsTracked, AreTracked, changed}
-use Rattle.aero_batch.proofs.Apart.{block_apart}
-use Rattle.aero_batch.proofs.Retold.{retold, retold_there, retold_same, retold_elsewhere, with_pieces, block_tracked, still_arriving}
-use Rattle.aero_intake.proofs.Taken.{nothing_is_taken, piece_is_held, held_is_cut, held_is_passed, cut_bytes, blocks_with_last, nothing_has_come}
-use Rattle.aero_intake.proofs.Taken.{more_has_come, source_was_read, source_was_stopped, blocks_with_more}
+use Rattle.aero_batch.proofs.Apart.{chunk_apart}
+use Rattle.aero_batch.proofs.Retold.{retold, retold_there, retold_same, retold_elsewhere, with_pieces, chunk_tracked, still_arriving}
+use Rattle.aero_intake.proofs.Taken.{nothing_is_taken, piece_is_held, held_is_cut, held_is_passed, cut_bytes, chunks_with_last, nothing_has_come}
+use Rattle.aero_intake.proofs.Taken.{more_has_come, source_was_read, source_was_stopped, chunks_with_more}
 use Rattle.aero_intake.proofs.Tracked.{changed_there, changed_elsewhere, before_change, enough_asked, alike_dropped, begin_alike, settled_decide}
-use Rattle.aero_verdict.specs.Finding.{Terms}
+use Rattle.aero_model.specs.Terms.{Terms}
 
 the_some : {A : Type 0} (x y : A) → Some x ≡ Some y → x ≡ y
 the_some x y p = cc p
@@ -59,47 +59,47 @@ ended_stays terms old now after place s story others other has = record {
   read = has.read;
 }
 
--- What is settled of the source that is being read decides, and so do all its blocks that were asked about.
+-- What is settled of the source that is being read decides, and so do all its chunks that were asked about.
 story_decides : (terms : Terms) (p : Underway) (tale : ℕ → Story) → AreTracked terms (all_open p.inquiry) tale p.tracks.items → HasDecided p →
-    IsDecisive terms (map reading_of (tale p.read).blocks)
+    IsDecisive terms (map reading_of (tale p.read).chunks)
 story_decides terms p tale tracked is = go (slice_get p.tracks.items p.read) refl is
   where
-    go : (o : Option Track) → slice_get p.tracks.items p.read ≡ o → DecidesThere o → IsDecisive terms (map reading_of (tale p.read).blocks)
+    go : (o : Option Track) → slice_get p.tracks.items p.read ≡ o → DecidesThere o → IsDecisive terms (map reading_of (tale p.read).chunks)
     go None at is = absurd is
     go (Some (Arriving known)) at is = settled_decide terms (all_open p.inquiry) p.read (tale p.read) known (tracked p.read (Arriving known) at).0 is
-    go (Some (Arrived bytes ending blocks known)) at is = absurd is
+    go (Some (Arrived bytes ending chunks known)) at is = absurd is
     go (Some (Checking bytes ending)) at is = absurd is
-    go (Some (Found bytes ending finding)) at is = absurd is
+    go (Some (Found g)) at is = absurd is
 
--- where no further block counts, those that were asked about decide
+-- where no further chunk counts, those that were asked about decide
 enough_begun : (terms : Terms) (old now : List Sighted) (p : Underway) (tale : ℕ → Story) → HasEnough p → (holds : Holds terms old now p tale) →
-    BeginAlike terms (tale p.read).blocks holds.cut
+    BeginAlike terms (tale p.read).chunks holds.cut
 enough_begun terms old now p tale (inl passed) holds = holds.passed passed
 enough_begun terms old now p tale (inr decided) holds =
-    begin_alike terms (tale p.read).blocks holds.cut (story_decides terms p tale holds.tracked decided) holds.enough
+    begin_alike terms (tale p.read).chunks holds.cut (story_decides terms p tale holds.tracked decided) holds.enough
 
--- the last block of a whole source is asked about, or doesn't count
+-- the last chunk of a whole source is asked about, or doesn't count
 enough_wanted : (terms : Terms) (old now : List Sighted) (p : Underway) (tale : ℕ → Story) (ending : Ending) (asked : Option (List ℕ)) →
     (holds : Holds terms old now p tale) →
     IsWanted p (last_of p.intake.cutting ending) asked →
-    AreEnough terms ((tale p.read).blocks ++ option_to_list asked) (holds.cut ++ option_to_list (last_of (fed_all nothing_yet (tale p.read).pieces) ending))
+    AreEnough terms ((tale p.read).chunks ++ option_to_list asked) (holds.cut ++ option_to_list (last_of (fed_all nothing_yet (tale p.read).pieces) ending))
 enough_wanted terms old now p tale ending asked holds (inl wanted) =
-    let blocks = (tale p.read).blocks in
+    let chunks = (tale p.read).chunks in
     let last = last_of (fed_all nothing_yet (tale p.read).pieces) ending in
     let is : asked ≡ last = wanted.0 ∙ ap (λ c. last_of c ending) (holds.taken.cutting wanted.1.none_passed) in
-    subst (λ o. AreEnough terms (blocks ++ option_to_list o) (holds.cut ++ option_to_list last)) (sym is)
-    (enough_asked terms blocks holds.cut (option_to_list last) holds.enough)
+    subst (λ o. AreEnough terms (chunks ++ option_to_list o) (holds.cut ++ option_to_list last)) (sym is)
+    (enough_asked terms chunks holds.cut (option_to_list last) holds.enough)
 enough_wanted terms old now p tale ending asked holds (inr enough) =
-    let blocks = (tale p.read).blocks in
+    let chunks = (tale p.read).chunks in
     let last = last_of (fed_all nothing_yet (tale p.read).pieces) ending in
-    subst (λ o. AreEnough terms (blocks ++ option_to_list o) (holds.cut ++ option_to_list last)) (sym enough.0)
-    (subst (λ bs. AreEnough terms bs (holds.cut ++ option_to_list last)) (sym (append-nil blocks))
-    (inr (alike_dropped terms blocks holds.cut (option_to_list last) (enough_begun terms old now p tale enough.1 holds))))
+    subst (λ o. AreEnough terms (chunks ++ option_to_list o) (holds.cut ++ option_to_list last)) (sym enough.0)
+    (subst (λ bs. AreEnough terms bs (holds.cut ++ option_to_list last)) (sym (append-nil chunks))
+    (inr (alike_dropped terms chunks holds.cut (option_to_list last) (enough_begun terms old now p tale enough.1 holds))))
 
-block_count : (p : Underway) (o : Option (List ℕ)) (blocks : List (List ℕ)) → p.blocks ≡ length blocks →
-    (with_block p o).blocks ≡ length (blocks ++ option_to_list o)
-block_count p None blocks is = is ∙ ap length (sym (append-nil blocks))
-block_count p (Some b) blocks is = omega (arith, is, length-append blocks (b ∷ []))
+chunk_count : (p : Underway) (o : Option (List ℕ)) (chunks : List (List ℕ)) → p.chunks ≡ length chunks →
+    (with_chunk p o).chunks ≡ length (chunks ++ option_to_list o)
+chunk_count p None chunks is = is ∙ ap length (sym (append-nil chunks))
+chunk_count p (Some b) chunks is = omega (arith, is, length-append chunks (b ∷ []))
 
 -- what has come of the source whose reader was used
 come_on : (terms : Terms) (old now after : List Sighted) (place : ℕ) (before_read after_read : Sight) (bytes more : List ℕ) (was is : Option Ending) →
@@ -182,7 +182,7 @@ cutting_holds terms old now after p q tale before_read after_read from unread cu
     let there : new p.read ≡ story = retold_there tale p.read story in
     let there' : new q.read ≡ story = ap new cuts.read ∙ there in
     let elsewhere : (s : ℕ) → (p.read ≡ s → ⊥) → new s ≡ tale s = λ s other. retold_elsewhere tale p.read s story other in
-    let tracked = block_tracked terms p tale pieces o holds.not_ended holds.tracked in
+    let tracked = chunk_tracked terms p tale pieces o holds.not_ended holds.tracked in
     let come : HasComeFrom terms old after p.read (concat pieces ++ []) p.ended =
     come_on terms old now after p.read before_read after_read bytes (concat pieces ++ []) p.ended p.ended from
     (λ first come. subst (λ bs. HasCome first after_read limit bs p.ended) (sym (cut_bytes (tale p.read).pieces p.intake.held))
@@ -190,9 +190,9 @@ cutting_holds terms old now after p q tale before_read after_read from unread cu
     holds.come in (
       new,
       record {
-        apart = subst AreApart (sym cuts.inquiry) (block_apart p o holds.apart);
+        apart = subst AreApart (sym cuts.inquiry) (chunk_apart p o holds.apart);
         tracked = subst (λ (i : Inquired). AreTracked terms (all_open i) new q.tracks.items) (sym cuts.inquiry)
-            (subst (λ ts. AreTracked terms (all_open (with_block p o).inquiry) new ts) (sym cuts.tracks) tracked);
+            (subst (λ ts. AreTracked terms (all_open (with_chunk p o).inquiry) new ts) (sym cuts.tracks) tracked);
         ended = λ s below.
             let less : s < p.read = subst (λ r. s < r) cuts.read below in
             let other : p.read ≡ s → ⊥ = λ e. omega (arith, less, e) in
@@ -202,15 +202,15 @@ cutting_holds terms old now after p q tale before_read after_read from unread cu
         taken = subst (λ (x : Story). IsTaken q.intake x.pieces cut) (sym there')
             (subst (λ (i : Taking). IsTaken i pieces cut) (sym cuts.intake)
             (held_is_cut p.intake (tale p.read).pieces holds.cut cuts.going_on.none_passed holds.taken));
-        enough = subst (λ (x : Story). AreEnough terms x.blocks cut) (sym there')
-            (enough_asked terms (tale p.read).blocks holds.cut (option_to_list given) holds.enough);
+        enough = subst (λ (x : Story). AreEnough terms x.chunks cut) (sym there')
+            (enough_asked terms (tale p.read).chunks holds.cut (option_to_list given) holds.enough);
         passed = λ is_passed. absurd (not_both p.intake.passed (ap (λ (i : Taking). i.passed) (sym cuts.intake) ∙ is_passed) cuts.going_on.none_passed);
         stopped = λ e. absurd (not_both p.intake.passed (holds.stopped (sym cuts.ended ∙ e)).1 cuts.going_on.none_passed);
         come = subst (λ (x : Story). HasComeFrom terms old after q.read (concat x.pieces ++ q.intake.held) q.ended) (sym there')
             (subst (λ (i : Taking). HasComeFrom terms old after q.read (concat pieces ++ i.held) q.ended) (sym cuts.intake)
             (subst (λ e. HasComeFrom terms old after q.read (concat pieces ++ []) e) (sym cuts.ended)
             (subst (λ r. HasComeFrom terms old after r (concat pieces ++ []) p.ended) (sym cuts.read) come)));
-        asked = cuts.blocks ∙ (block_count p o (tale p.read).blocks holds.asked ∙ ap (λ (x : Story). length x.blocks) (sym there'));
+        asked = cuts.chunks ∙ (chunk_count p o (tale p.read).chunks holds.asked ∙ ap (λ (x : Story). length x.chunks) (sym there'));
         not_ended = ap (λ (x : Story). x.ending) there';
         later = λ s above.
             let less : p.read < s = subst (λ r. r < s) cuts.read above in
@@ -234,10 +234,10 @@ passing_over_holds terms old now after p q tale before_read after_read from unre
     let new : ℕ → Story = retold tale p.read story in
     let there : new p.read ≡ story = retold_there tale p.read story in
     let elsewhere : (s : ℕ) → (p.read ≡ s → ⊥) → new s ≡ tale s = λ s other. retold_elsewhere tale p.read s story other in
-    let same : story.blocks ≡ (tale p.read).blocks = append-nil (tale p.read).blocks in
-    let alike : BeginAlike terms story.blocks cut =
+    let same : story.chunks ≡ (tale p.read).chunks = append-nil (tale p.read).chunks in
+    let alike : BeginAlike terms story.chunks cut =
     subst (λ bs. BeginAlike terms bs cut) (sym same)
-    (alike_dropped terms (tale p.read).blocks holds.cut (option_to_list given) (enough_begun terms old now p tale passes.enough holds)) in
+    (alike_dropped terms (tale p.read).chunks holds.cut (option_to_list given) (enough_begun terms old now p tale passes.enough holds)) in
     let come : HasComeFrom terms old after p.read (concat pieces ++ []) p.ended =
     come_on terms old now after p.read before_read after_read bytes (concat pieces ++ []) p.ended p.ended from
     (λ first come. subst (λ bs. HasCome first after_read limit bs p.ended) (sym (cut_bytes (tale p.read).pieces p.intake.held))
@@ -247,7 +247,7 @@ passing_over_holds terms old now after p q tale before_read after_read from unre
       subst (λ (m : Underway). Holds terms old after m new) (sym passes.new_is)
           (record {
             apart = holds.apart;
-            tracked = block_tracked terms p tale pieces None holds.not_ended holds.tracked;
+            tracked = chunk_tracked terms p tale pieces None holds.not_ended holds.tracked;
             ended = λ s below.
                 let other : p.read ≡ s → ⊥ = λ e. omega (arith, below, e) in
                 subst (λ (x : Story). HasEnded terms old after s x) (sym (elsewhere s other))
@@ -255,11 +255,11 @@ passing_over_holds terms old now after p q tale before_read after_read from unre
             cut = cut;
             taken = subst (λ (x : Story). IsTaken (with_passing p.intake) x.pieces cut) (sym there)
                 (held_is_passed p.intake (tale p.read).pieces holds.cut holds.taken);
-            enough = subst (λ (x : Story). AreEnough terms x.blocks cut) (sym there) (inr alike);
-            passed = λ is_passed. subst (λ (x : Story). BeginAlike terms x.blocks cut) (sym there) alike;
+            enough = subst (λ (x : Story). AreEnough terms x.chunks cut) (sym there) (inr alike);
+            passed = λ is_passed. subst (λ (x : Story). BeginAlike terms x.chunks cut) (sym there) alike;
             stopped = λ e. ((holds.stopped e).0, refl);
             come = subst (λ (x : Story). HasComeFrom terms old after p.read (concat x.pieces ++ []) p.ended) (sym there) come;
-            asked = holds.asked ∙ ap length (sym same) ∙ ap (λ (x : Story). length x.blocks) (sym there);
+            asked = holds.asked ∙ ap length (sym same) ∙ ap (λ (x : Story). length x.chunks) (sym there);
             not_ended = ap (λ (x : Story). x.ending) there;
             later = λ s above.
                 let other : p.read ≡ s → ⊥ = λ e. omega (arith, above, e) in
@@ -268,66 +268,66 @@ passing_over_holds terms old now after p q tale before_read after_read from unre
       λ s less. elsewhere s (λ e. omega (arith, less, e)),
     )
 
--- what was asked about begins as the blocks of whatever could follow
+-- what was asked about begins as the chunks of whatever could follow
 alike_with_more : (terms : Terms) (asked cut pieces : List (List ℕ)) (i : Taking) (more : List ℕ) → IsTaken i pieces cut → BeginAlike terms asked cut →
     BeginAlike terms asked (blocks_from nothing_yet (pieces ++ more ∷ []))
 alike_with_more terms asked cut pieces i more taken alike =
-    let all = blocks_with_more i pieces cut more taken in
+    let all = chunks_with_more i pieces cut more taken in
     subst (λ bs. BeginAlike terms asked bs) all.1 (alike_dropped terms asked cut all.0 alike)
 
 -- a source that was arriving has ended
-ended_track_fits : (terms : Terms) (qs : List Question) (s count blocks : ℕ) (ending : Ending) (i : Taking) (pieces cut all : List (List ℕ)) (known : Known) →
+ended_track_fits : (terms : Terms) (qs : List Question) (s count chunks : ℕ) (ending : Ending) (i : Taking) (pieces cut all : List (List ℕ)) (known : Known) →
     IsTaken i pieces cut → count ≡ length (concat pieces) → AreEnough terms all (cut ++ option_to_list (last_of (fed_all nothing_yet pieces) ending)) →
     (ending ≡ Stopped → (terms.stop ≡ true) × BeginAlike terms all cut) →
-    blocks ≡ length all →
-    IsTracked terms qs s (record { pieces = pieces; blocks = all; ending = None }) (Arriving known) →
-    IsTracked terms qs s (record { pieces = pieces; blocks = all; ending = Some ending }) (ended_track ending count blocks (Arriving known))
-ended_track_fits terms qs s count blocks Whole i pieces cut all known taken is_count enough stopped is_blocks is = (
+    chunks ≡ length all →
+    IsTracked terms qs s (record { pieces = pieces; chunks = all; ending = None }) (Arriving known) →
+    IsTracked terms qs s (record { pieces = pieces; chunks = all; ending = Some ending }) (ended_track ending count chunks (Arriving known))
+ended_track_fits terms qs s count chunks Whole i pieces cut all known taken is_count enough stopped is_chunks is = (
   record { on = is.0.on; all = is.0.all },
   is.1,
   record {
     ended = refl;
-    enough = subst (λ bs. AreEnough terms all bs) (blocks_with_last i pieces cut taken) enough;
+    enough = subst (λ bs. AreEnough terms all bs) (chunks_with_last i pieces cut taken) enough;
     byte_count = is_count;
-    block_count = is_blocks;
+    chunk_count = is_chunks;
   },
 )
-ended_track_fits terms qs s count blocks Broken i pieces cut all known taken is_count enough stopped is_blocks is =
+ended_track_fits terms qs s count chunks Broken i pieces cut all known taken is_count enough stopped is_chunks is =
     (refl, is_count, merely (ap findings.Broken is_count))
-ended_track_fits terms qs s count blocks TooLarge i pieces cut all known taken is_count enough stopped is_blocks is =
+ended_track_fits terms qs s count chunks TooLarge i pieces cut all known taken is_count enough stopped is_chunks is =
     (refl, is_count, merely refl)
-ended_track_fits terms qs s count blocks Stopped i pieces cut all known taken is_count enough stopped is_blocks is = (
+ended_track_fits terms qs s count chunks Stopped i pieces cut all known taken is_count enough stopped is_chunks is = (
   record { on = is.0.on; all = is.0.all },
   is.1,
   record {
     ended = refl;
     enough = ((stopped refl).0, λ more. alike_with_more terms all cut pieces i more taken (stopped refl).1);
     byte_count = is_count;
-    block_count = is_blocks;
+    chunk_count = is_chunks;
   },
 )
 
 ended_tracked : (terms : Terms) (p : Underway) (tale : ℕ → Story) (ending : Ending) (o : Option (List ℕ)) (all cut : List (List ℕ)) →
     AreEnough terms all (cut ++ option_to_list (last_of (fed_all nothing_yet (tale p.read).pieces) ending)) →
     (ending ≡ Stopped → (terms.stop ≡ true) × BeginAlike terms all cut) →
-    IsTaken p.intake (tale p.read).pieces cut → p.intake.count ≡ length (concat (tale p.read).pieces) → (with_block p o).blocks ≡ length all →
-    AreTracked terms (all_open (with_block p o).inquiry)
-    (retold tale p.read (record { pieces = (tale p.read).pieces; blocks = all; ending = None })) p.tracks.items →
-    AreTracked terms (all_open (with_block p o).inquiry) (retold tale p.read (record { pieces = (tale p.read).pieces; blocks = all; ending = Some ending }))
-    (changed p.read (ended_track ending p.intake.count (with_block p o).blocks) p.tracks.items)
-ended_tracked terms p tale ending o all cut enough stopped taken is_count blocks tracked s t at =
-    let qs = (all_open (with_block p o).inquiry) in
-    let f : Track → Track = ended_track ending p.intake.count (with_block p o).blocks in
-    let mid : Story = record { pieces = (tale p.read).pieces; blocks = all; ending = None } in
-    let story : Story = record { pieces = (tale p.read).pieces; blocks = all; ending = Some ending } in
+    IsTaken p.intake (tale p.read).pieces cut → p.intake.count ≡ length (concat (tale p.read).pieces) → (with_chunk p o).chunks ≡ length all →
+    AreTracked terms (all_open (with_chunk p o).inquiry)
+    (retold tale p.read (record { pieces = (tale p.read).pieces; chunks = all; ending = None })) p.tracks.items →
+    AreTracked terms (all_open (with_chunk p o).inquiry) (retold tale p.read (record { pieces = (tale p.read).pieces; chunks = all; ending = Some ending }))
+    (changed p.read (ended_track ending p.intake.count (with_chunk p o).chunks) p.tracks.items)
+ended_tracked terms p tale ending o all cut enough stopped taken is_count chunks tracked s t at =
+    let qs = (all_open (with_chunk p o).inquiry) in
+    let f : Track → Track = ended_track ending p.intake.count (with_chunk p o).chunks in
+    let mid : Story = record { pieces = (tale p.read).pieces; chunks = all; ending = None } in
+    let story : Story = record { pieces = (tale p.read).pieces; chunks = all; ending = Some ending } in
     elim (cases_eq p.read s) [
       | inl same ↦
           (let at_place = subst (λ n. slice_get (changed n f p.tracks.items) s ≡ Some t) same at in
           let was = before_change f (slice_get p.tracks.items s) t (sym (changed_there s f p.tracks.items) ∙ at_place) in
           let is = subst (λ x. IsTracked terms qs s x was.0) (retold_same tale p.read s mid same) (tracked s was.0 was.1) in
           let arriving = still_arriving terms qs s mid was.0 refl is in
-          let fits = ended_track_fits terms qs s p.intake.count (with_block p o).blocks ending p.intake
-          (tale p.read).pieces cut all arriving.0 taken is_count enough stopped blocks
+          let fits = ended_track_fits terms qs s p.intake.count (with_chunk p o).chunks ending p.intake
+          (tale p.read).pieces cut all arriving.0 taken is_count enough stopped chunks
           (subst (λ x. IsTracked terms qs s mid x) {y = Arriving arriving.0} arriving.1 is) in
           subst (λ x. IsTracked terms qs s x t) {x = story} {y = retold tale p.read story s} (sym (retold_same tale p.read s story same))
           (subst (λ x. IsTracked terms qs s story x) {y = t} (sym (was.2 ∙ ap f {y = Arriving arriving.0} arriving.1)) fits))
@@ -368,10 +368,10 @@ empty : (xs : List ℕ) → length xs ≡ 0 → xs ≡ []
 empty [] none = refl
 empty (x ∷ xs) none = absurd (omega (arith, none))
 
--- where the reading was stopped, what was asked about decides, and no last block is asked about
+-- where the reading was stopped, what was asked about decides, and no last chunk is asked about
 stopped_begins : (terms : Terms) (old now : List Sighted) (p : Underway) (tale : ℕ → Story) (ending : Ending) (o : Option (List ℕ)) →
     (holds : Holds terms old now p tale) → p.ended ≡ Some ending → IsWanted p (last_of p.intake.cutting ending) o → ending ≡ Stopped →
-    (terms.stop ≡ true) × BeginAlike terms ((tale p.read).blocks ++ option_to_list o) holds.cut
+    (terms.stop ≡ true) × BeginAlike terms ((tale p.read).chunks ++ option_to_list o) holds.cut
 stopped_begins terms old now p tale ending o holds ended wanted same =
     let was = holds.stopped (ended ∙ ap Some same) in
     let none : o ≡ None = elim wanted [
@@ -379,8 +379,8 @@ stopped_begins terms old now p tale ending o holds ended wanted same =
       | inr asked ↦ asked.0
     ] in (
       was.0,
-      subst (λ x. BeginAlike terms ((tale p.read).blocks ++ option_to_list x) holds.cut) (sym none)
-          (subst (λ bs. BeginAlike terms bs holds.cut) (sym (append-nil (tale p.read).blocks)) (holds.passed was.1)),
+      subst (λ x. BeginAlike terms ((tale p.read).chunks ++ option_to_list x) holds.cut) (sym none)
+          (subst (λ bs. BeginAlike terms bs holds.cut) (sym (append-nil (tale p.read).chunks)) (holds.passed was.1)),
     )
 
 -- what was passed over has come, and no more of it is read
@@ -423,7 +423,7 @@ passing_holds terms old now after p q tale before_read after_read first was from
     let limit = terms.rules.limits.bytes in
     let o = is.asked in
     let pieces = (tale p.read).pieces in
-    let all = (tale p.read).blocks ++ option_to_list o in
+    let all = (tale p.read).chunks ++ option_to_list o in
     let bytes_are : concat pieces ++ p.intake.held ≡ concat pieces = ap (λ h. concat pieces ++ h) (empty p.intake.held passes.none_held)
     ∙ append-nil (concat pieces) in
     let read : WasRead first.reader after_read limit (concat pieces) ending =
@@ -433,29 +433,29 @@ passing_holds terms old now after p q tale before_read after_read first was from
     let stopped : ending ≡ Stopped → (terms.stop ≡ true) × BeginAlike terms all holds.cut = λ e.
     stopped_begins terms old now p tale ending o holds passes.ended is.wanted e in
     let mid : Story = with_pieces (tale p.read) pieces o in
-    let story : Story = record { pieces = pieces; blocks = all; ending = Some ending } in
+    let story : Story = record { pieces = pieces; chunks = all; ending = Some ending } in
     let arriving : ℕ → Story = retold tale p.read mid in
     let new : ℕ → Story = retold tale p.read story in
     let there : new p.read ≡ story = retold_there tale p.read story in
     let elsewhere : (s : ℕ) → (p.read ≡ s → ⊥) → new s ≡ tale s = λ s other. retold_elsewhere tale p.read s story other in
-    let tracked = block_tracked terms p tale pieces o holds.not_ended holds.tracked in
-    let blocks = block_count p o (tale p.read).blocks holds.asked in
-    let qs = (all_open (with_block p o).inquiry) in
+    let tracked = chunk_tracked terms p tale pieces o holds.not_ended holds.tracked in
+    let chunks = chunk_count p o (tale p.read).chunks holds.asked in
+    let qs = (all_open (with_chunk p o).inquiry) in
     let next_other : p.read ≡ q.read → ⊥ = λ e. omega (arith, e, is.read) in
     let next_above : p.read < q.read = omega (arith, is.read) in
     let next_known : new q.read ≡ nothing_known = elsewhere q.read next_other ∙ (holds.later q.read next_above).0 in (
       new,
       record {
-        apart = subst AreApart (sym is.inquiry) (block_apart p o holds.apart);
+        apart = subst AreApart (sym is.inquiry) (chunk_apart p o holds.apart);
         tracked = subst (λ (i : Inquired). AreTracked terms (all_open i) new q.tracks.items) (sym is.inquiry)
             (subst (λ ts. AreTracked terms qs new ts) (sym is.tracks)
             (ended_tracked terms p tale ending o all holds.cut (enough_wanted terms old now p tale ending o holds is.wanted) stopped holds.taken
-            (holds.taken.count ∙ ap length bytes_are) blocks tracked));
+            (holds.taken.count ∙ ap length bytes_are) chunks tracked));
         ended = λ s below. ended_before terms old now after p tale before_read after_read ending first story new was from read holds refl refl there elsewhere
             s (omega (arith, below, is.read));
         cut = [];
         taken = subst (λ (x : Story). IsTaken q.intake x.pieces []) (sym next_known) (subst (λ (i : Taking). IsTaken i [] []) (sym is.intake) nothing_is_taken);
-        enough = subst (λ (x : Story). AreEnough terms x.blocks []) (sym next_known) (inl refl);
+        enough = subst (λ (x : Story). AreEnough terms x.chunks []) (sym next_known) (inl refl);
         passed = λ is_passed. absurd (not_both q.intake.passed is_passed (ap (λ (i : Taking). i.passed) is.intake));
         stopped = λ e. absurd (not_none q.ended Stopped is.reading e);
         come = subst (λ e. HasComeFrom terms old after q.read (concat (new q.read).pieces ++ q.intake.held) e) (sym is.reading)
@@ -465,7 +465,7 @@ passing_holds terms old now after p q tale before_read after_read first was from
             let same : before ≡ last = the_some before last
             (sym at_old ∙ (sym (holds.later q.read next_above).1 ∙ (sym (from.others q.read next_other) ∙ at_new))) in
             subst (λ (x : Sighted). HaveCome before.reader x.reader []) same (nothing_has_come before.reader))));
-        asked = is.blocks ∙ ap (λ (x : Story). length x.blocks) (sym next_known);
+        asked = is.chunks ∙ ap (λ (x : Story). length x.chunks) (sym next_known);
         not_ended = ap (λ (x : Story). x.ending) next_known;
         later = λ s above.
             let less : p.read < s = omega (arith, above, is.read) in

@@ -11,9 +11,9 @@ use Rattle.std.proofs.lemmas.Option.{slice_get_within}
 use Rattle.aero_model.specs.declared.verdict.Counts.{Counts}
 use Rattle.aero_model.specs.declared.verdict.Ending.{Ending}
 use Rattle.aero_model.specs.declared.verdict.Ending.TheVariants.{Stopped}
-use Rattle.aero_model.specs.declared.verdict.Finding.{Finding}
+use Rattle.aero_model.specs.declared.verdict.Found as model
 use Rattle.aero_model.specs.CallCounts.{Seen}
-use Rattle.aero_report.specs.Texts.{counts_of, counted, no_counts}
+use Rattle.aero_model.specs.Verdicts.{counts_of, counted, no_counts, total}
 use Rattle.aero_report.specs.declared.form.Form.{Form}
 use Rattle.aero_report.specs.Forms.{source_line_in, source_lines_in}
 use Rattle.aero_batch.specs.declared.outcome.Cause.{Cause}
@@ -32,14 +32,14 @@ use Rattle.aero_intake.specs.Held.{nothing_read}
 use Rattle.aero_intake.specs.Intake.{Taking, IsTaken, HaveCome}
 use Rattle.aero_intake.specs.Source.{WasRead}
 use Rattle.aero_batch.specs.Steps.{IsStart, Steps, ReadsOn}
-use Rattle.aero_batch.specs.Telling.{SumsUp, WasCut, TellsNext, IsOneMore, total}
+use Rattle.aero_batch.specs.Telling.{SumsUp, WasCut, TellsFound, TellsNext, IsOneMore}
 use Rattle.aero_intake.specs.Stories.{Story, IsTracked}
 use Rattle.aero_batch.proofs.Apart.{nothing_apart}
 use Rattle.aero_batch.proofs.Readings.{not_none, taking_holds, noting_holds, stopping_holds, cutting_holds, passing_over_holds, passing_holds}
 use Rattle.aero_intake.proofs.Taken.{nothing_is_taken, nothing_has_come}
 use Rattle.aero_batch.proofs.Retold.{settling_holds, checking_holds}
 use Rattle.aero_batch.proofs.Sums.{settling_counted, checking_counted, taking_counted, noting_counted, cutting_counted, passing_counted, stopping_counted, ending_counted}
-use Rattle.aero_verdict.specs.Finding.{Terms}
+use Rattle.aero_model.specs.Terms.{Terms}
 
 pub the_some : {A : Type 0} (x y : A) → Some x ≡ Some y → x ≡ y
 the_some x y p = cc p
@@ -68,13 +68,13 @@ counts_more founds f =
     ap counts_of (map-append (λ x. x.finding) founds (f ∷ [])) ∙ fold-append counted no_counts (map (λ x. x.finding) founds) (f.finding ∷ [])
 
 -- the tracks that may be told are those of sources that have ended
-found_tells : (terms : Terms) (old now : List Sighted) (p : Underway) (tale : ℕ → Story) (place bytes : ℕ) (ending : Ending) (finding : Finding) →
+found_tells : (terms : Terms) (old now : List Sighted) (p : Underway) (tale : ℕ → Story) (place : ℕ) (g : model.Found) →
     Holds terms old now p tale → place < p.read →
-    slice_get p.tracks.items place ≡ Some (tracks.Found bytes ending finding) → (name : List ℕ) →
+    slice_get p.tracks.items place ≡ Some (tracks.Found g) → (name : List ℕ) →
     ((b : Sighted) → slice_get old place ≡ Some b → b.name ≡ name) →
-    Tells terms old place (tale place) (record { name = name; bytes = concat (tale place).pieces; ending = ending; finding = finding })
-found_tells terms old now p tale place bytes ending finding holds below at name named =
-    let is = holds.tracked place (tracks.Found bytes ending finding) at in
+    Tells terms old place (tale place) (record { name = name; bytes = concat (tale place).pieces; ending = g.ending; finding = g.finding })
+found_tells terms old now p tale place g holds below at name named =
+    let is = holds.tracked place (tracks.Found g) at in
     let has = holds.ended place below in
     record {
       before = has.before;
@@ -137,20 +137,20 @@ name_then (c ∷ old) (x ∷ now) (suc s) b names was named =
     name_then old now s b rest was named
 
 -- one more source is told
-pub told_stands : (terms : Terms) (form : Form) (old now : List Sighted) (before mid after : Seen) (p : Underway) (a b : Told) (bytes : ℕ) (ending : Ending)
-    (finding : Finding) (name : List ℕ) →
-    vec_len a.endings < p.checked → slice_get p.tracks.items (vec_len a.endings) ≡ Some (tracks.Found bytes ending finding) →
+pub told_stands : (terms : Terms) (form : Form) (old now : List Sighted) (before mid after : Seen) (p : Underway) (a b : Told) (g : model.Found)
+    (name : List ℕ) →
+    vec_len a.endings < p.checked → slice_get p.tracks.items (vec_len a.endings) ≡ Some (tracks.Found g) →
     ((x : Sighted) → slice_get now (vec_len a.endings) ≡ Some x → x.name ≡ name) →
-    Took mid after (source_line_in form name finding) → IsOneMore a b bytes ending finding → Stands terms form old now before mid p a →
+    Took mid after (source_line_in form name g.finding) → IsOneMore a b g → Stands terms form old now before mid p a →
     Stands terms form old now before after p b
-told_stands terms form old now before mid after p a b bytes ending finding name below at named took more st =
+told_stands terms form old now before mid after p a b g name below at named took more st =
     let t = st.are_told in
     let place = vec_len a.endings in
     let same_place : place ≡ length st.founds = a.endings.ok.0 ∙ (ap length t.endings ∙ length-map st.founds ending_of) in
-    let f : Found = record { name = name; bytes = concat (st.tale place).pieces; ending = ending; finding = finding } in
-    let is = st.holds.tracked place (tracks.Found bytes ending finding) at in
+    let f : Found = record { name = name; bytes = concat (st.tale place).pieces; ending = g.ending; finding = g.finding } in
+    let is = st.holds.tracked place (tracks.Found g) at in
     let read_below : place < p.read = omega (arith, below, st.counted.checked) in
-    let tells = found_tells terms old now p st.tale place bytes ending finding st.holds read_below at name
+    let tells = found_tells terms old now p st.tale place g st.holds read_below at name
     (λ b was. name_then old now place b st.names was named) in
     record {
       tale = st.tale;
@@ -163,12 +163,12 @@ told_stands terms form old now before mid after p a b bytes ending finding name 
         ];
         few = omega (arith, length_push st.founds f, below, same_place);
         took = subst (λ text. Took before after text) (sym (lines_more form st.founds f))
-            (took_more before mid after (lines_of_all form st.founds) (source_line_in form name finding) t.took took);
-        endings = more.endings ∙ (ap₂ (λ es n. es ++ (n, ending) ∷ []) t.endings is.1 ∙ sym (map-append ending_of st.founds (f ∷ [])));
-        counts = more.counts ∙ (ap (λ c. counted c finding) t.counts ∙ sym (counts_more st.founds f));
+            (took_more before mid after (lines_of_all form st.founds) (source_line_in form name g.finding) t.took took);
+        endings = more.endings ∙ (ap₂ (λ es n. es ++ (n, g.ending) ∷ []) t.endings is.1 ∙ sym (map-append ending_of st.founds (f ∷ [])));
+        counts = more.counts ∙ (ap (λ c. counted c g.finding) t.counts ∙ sym (counts_more st.founds f));
         total_is = omega (arith, more.counted_one, t.total_is, length_push st.founds f);
         room = more.room ∙ t.room;
-        notables = more.notables ∙ (ap (λ fs. fs ++ notable_of finding ∷ []) t.notables ∙ sym (map-append notable st.founds (f ∷ [])));
+        notables = more.notables ∙ (ap (λ fs. fs ++ notable_of g.finding ∷ []) t.notables ∙ sym (map-append notable st.founds (f ∷ [])));
         notables_room = more.notables_room ∙ t.notables_room;
       };
       counted = st.counted;
@@ -216,22 +216,22 @@ cut_off terms form last old now before mid after founds text next took cut = rec
 }
 
 -- a write of the next source's line failed
-pub line_stops : (terms : Terms) (form : Form) (old now : List Sighted) (before mid after : Seen) (p : Underway) (a : Told) (bytes : ℕ) (ending : Ending)
-    (finding : Finding) (name : List ℕ) →
-    vec_len a.endings < p.checked → slice_get p.tracks.items (vec_len a.endings) ≡ Some (tracks.Found bytes ending finding) →
-    ((x : Sighted) → slice_get now (vec_len a.endings) ≡ Some x → x.name ≡ name) → WasCut mid after (source_line_in form name finding) →
+pub line_stops : (terms : Terms) (form : Form) (old now : List Sighted) (before mid after : Seen) (p : Underway) (a : Told) (g : model.Found)
+    (name : List ℕ) →
+    vec_len a.endings < p.checked → slice_get p.tracks.items (vec_len a.endings) ≡ Some (tracks.Found g) →
+    ((x : Sighted) → slice_get now (vec_len a.endings) ≡ Some x → x.name ≡ name) → WasCut mid after (source_line_in form name g.finding) →
     Stands terms form old now before mid p a →
     WasTold terms form old now before after a.endings.items a.notables.items a.counts (Some Write)
-line_stops terms form old now before mid after p a bytes ending finding name below at named cut st =
+line_stops terms form old now before mid after p a g name below at named cut st =
     let t = st.are_told in
     let place = vec_len a.endings in
     let same_place : place ≡ length st.founds = a.endings.ok.0 ∙ (ap length t.endings ∙ length-map st.founds ending_of) in
-    let f : Found = record { name = name; bytes = concat (st.tale place).pieces; ending = ending; finding = finding } in
+    let f : Found = record { name = name; bytes = concat (st.tale place).pieces; ending = g.ending; finding = g.finding } in
     let read_below : place < p.read = omega (arith, below, st.counted.checked) in
-    let tells = found_tells terms old now p st.tale place bytes ending finding st.holds read_below at name
+    let tells = found_tells terms old now p st.tale place g st.holds read_below at name
     (λ b was. name_then old now place b st.names was named) in
     let has = st.holds.ended place read_below in
-    let ends : has.ending ≡ ending = the_some has.ending ending (sym has.ended ∙ tells.ending) in
+    let ends : has.ending ≡ g.ending = the_some has.ending g.ending (sym has.ended ∙ tells.ending) in
     let same : tells.before ≡ has.before = the_some tells.before has.before (sym tells.was ∙ has.was) in
     let is : IsFoundAt terms old now place f = record {
       before = has.before;
@@ -245,7 +245,7 @@ line_stops terms form old now before mid after p a bytes ending finding name bel
       };
     } in
     stopped terms form old now now before mid after p a st (Some Write) (λ s less. refl) refl
-    (cut_off terms form no_text old now before mid after st.founds (source_line_in form name finding)
+    (cut_off terms form no_text old now before mid after st.founds (source_line_in form name g.finding)
     (inl (f, subst (λ n. IsFoundAt terms old now n f) same_place is, refl)) t.took cut)
 
 -- what is told stays true where another source's story goes on
@@ -392,37 +392,36 @@ module _ (terms : Terms) (form : Form) (now : List Sighted) (mid after : Seen) (
   not_told : (after ≡ mid) × (b ≡ a) → Tellings (Ok false)
   not_told same = ((λ e old before st. cc (e)), (λ e. same), tt)
 
-  found_told : (bytes : ℕ) (ending : Ending) (finding : Finding) (r : Result Bool Cause) →
-      slice_get p.tracks.items (vec_len a.endings) ≡ Some (tracks.Found bytes ending finding) →
-      TellsNext form name (tracks.Found bytes ending finding) mid after a b r → Tellings r
-  found_told bytes ending finding (Ok true) at tells = (
-    (λ e old before st. told_stands terms form old now before mid after p a b bytes ending finding name below at named tells.0 tells.1 st),
+  found_told : (g : model.Found) (r : Result Bool Cause) → slice_get p.tracks.items (vec_len a.endings) ≡ Some (tracks.Found g) →
+      TellsFound form name g mid after a b r → Tellings r
+  found_told g (Ok true) at tells = (
+    (λ e old before st. told_stands terms form old now before mid after p a b g name below at named tells.0 tells.1 st),
     (λ e. cc (e)),
     tt,
   )
-  found_told bytes ending finding (Ok false) at tells = absurd tells
-  found_told bytes ending finding (Err Memory) at tells = (
+  found_told g (Ok false) at tells = absurd tells
+  found_told g (Err Memory) at tells = (
     tt,
     tt,
     λ old before st. subst (λ (t : Told). WasTold terms form old now before after t.endings.items t.notables.items t.counts (Some Memory)) (sym tells.1)
         (memory_stops terms form old now now before mid after p a st (λ s less. refl) refl tells.0),
   )
-  found_told bytes ending finding (Err Write) at tells = (
+  found_told g (Err Write) at tells = (
     tt,
     tt,
     λ old before st. subst (λ (t : Told). WasTold terms form old now before after t.endings.items t.notables.items t.counts (Some Write)) (sym tells.1)
-        (line_stops terms form old now before mid after p a bytes ending finding name below at named tells.0 st),
+        (line_stops terms form old now before mid after p a g name below at named tells.0 st),
   )
 
   pub telling : (track : Track) (r : Result Bool Cause) → slice_get p.tracks.items (vec_len a.endings) ≡ Some track →
       TellsNext form name track mid after a b r → Tellings r
-  telling (tracks.Found bytes ending finding) r at tells = found_told bytes ending finding r at tells
+  telling (tracks.Found g) r at tells = found_told g r at tells
   telling (tracks.Arriving known) (Ok false) at tells = not_told tells
   telling (tracks.Arriving known) (Ok true) at tells = absurd tells
   telling (tracks.Arriving known) (Err cause) at tells = absurd tells
-  telling (tracks.Arrived bytes ending blocks known) (Ok false) at tells = not_told tells
-  telling (tracks.Arrived bytes ending blocks known) (Ok true) at tells = absurd tells
-  telling (tracks.Arrived bytes ending blocks known) (Err cause) at tells = absurd tells
+  telling (tracks.Arrived bytes ending chunks known) (Ok false) at tells = not_told tells
+  telling (tracks.Arrived bytes ending chunks known) (Ok true) at tells = absurd tells
+  telling (tracks.Arrived bytes ending chunks known) (Err cause) at tells = absurd tells
   telling (tracks.Checking bytes ending) (Ok false) at tells = not_told tells
   telling (tracks.Checking bytes ending) (Ok true) at tells = absurd tells
   telling (tracks.Checking bytes ending) (Err cause) at tells = absurd tells
@@ -465,7 +464,7 @@ begun_holds terms old p start = record {
   come = subst (λ e. HasComeFrom terms old old p.read ([] ++ p.intake.held) e) (sym start.reading)
       (subst (λ (i : Taking). HasComeFrom terms old old p.read i.held None) (sym start.intake)
       (λ x y at_old at_now. subst (λ (z : Sighted). HaveCome x.reader z.reader []) (the_some x y (sym at_old ∙ at_now)) (nothing_has_come x.reader)));
-  asked = start.no_blocks;
+  asked = start.no_chunks;
   not_ended = refl;
   later = λ s above. (refl, refl);
 }
@@ -484,7 +483,7 @@ begun_counted terms sources p start few few_bytes =
       open_few = omega (arith, questions);
       within = omega (arith, count);
       few_bytes = few_bytes;
-      blocks = omega (arith, start.no_blocks, held);
+      chunks = omega (arith, start.no_chunks, held);
       asked = omega (arith, asked);
     }
 

@@ -14,12 +14,12 @@ use Rattle.aero_batch.specs.declared.kind.Kind.{Kind}
 use Rattle.aero_batch.specs.declared.kind.Kind.TheVariants as kinds
 use Rattle.aero_batch.specs.Inquiries.{Inquired, open_count, open_of, with_open}
 use Rattle.aero_intake.specs.Intake.{Taking}
-use Rattle.aero_batch.specs.Steps.{ChecksNext, SettlesNext, TakesPiece, NotesEnding, CutsHeld, PassesOver, StopsReading, EndsSource, MayAsk, with_block, with_check}
+use Rattle.aero_batch.specs.Steps.{ChecksNext, SettlesNext, TakesPiece, NotesEnding, CutsHeld, PassesOver, StopsReading, EndsSource, MayAsk, with_chunk, with_check}
 use Rattle.aero_batch.specs.Steps.{ended_track, Settles}
 use Rattle.aero_intake.specs.Stories.{trace_of}
 use Rattle.aero_intake.specs.Tracks.{with_value}
 use Rattle.aero_intake.proofs.Tracked.{changed_length}
-use Rattle.aero_verdict.specs.Finding.{Terms}
+use Rattle.aero_model.specs.Terms.{Terms}
 
 pub record Fewer (i new : Inquired) (old_tracks new_tracks : List Track) : Type 0 where
   pub questions : open_count new ≤ open_count i
@@ -34,7 +34,7 @@ left_fewer kinds.Parse i new rest old_tracks new_tracks less is same =
     let count : open_count new ≡ length i.verdicts + length rest = ap open_count is in
     record { questions = omega (arith, count, less); same_asked = ap (λ (j : Inquired). j.asked) is; tracks = same }
 left_fewer kinds.Check i new rest old_tracks new_tracks less is same =
-    let count : open_count new ≡ length rest + length i.blocks = ap open_count is in
+    let count : open_count new ≡ length rest + length i.chunks = ap open_count is in
     record { questions = omega (arith, count, less); same_asked = ap (λ (j : Inquired). j.asked) is; tracks = same }
 
 settled_fewer : (kind : Kind) (i new : Inquired) (qs : List Question) (old_tracks new_tracks : List Track) → open_of kind i ≡ qs →
@@ -61,8 +61,8 @@ settling_counted terms n kind p q is c =
       open_few = omega (arith, few.questions, c.open_few);
       within = omega (arith, c.within, count);
       few_bytes = c.few_bytes;
-      blocks = omega (arith, c.blocks, is.blocks, count, held);
-      asked = omega (arith, few.same_asked, c.asked, is.read, is.blocks, is.checked);
+      chunks = omega (arith, c.chunks, is.chunks, count, held);
+      asked = omega (arith, few.same_asked, c.asked, is.read, is.chunks, is.checked);
     }
 
 pub record OneMore (i j : Inquired) (k : ℕ) : Type 0 where
@@ -98,17 +98,17 @@ checking_counted terms n p q below may is c =
       open_few = omega (arith, questions, m.one, may.room);
       within = omega (arith, c.within, count);
       few_bytes = c.few_bytes;
-      blocks = omega (arith, c.blocks, is.blocks, count, held);
-      asked = omega (arith, more_asked, m.one, c.asked, is.read, is.blocks, is.checked);
+      chunks = omega (arith, c.chunks, is.chunks, count, held);
+      asked = omega (arith, more_asked, m.one, c.asked, is.read, is.chunks, is.checked);
     }
 
-block_more : (p : Underway) (o : Option (List ℕ)) → (k : ℕ) × OneMore p.inquiry (with_block p o).inquiry k × ((with_block p o).blocks ≡ p.blocks + k)
-block_more p None = (0, record { one = omega arith; questions = omega arith; more_asked = omega arith }, omega arith)
-block_more p (Some b) = (
+chunk_more : (p : Underway) (o : Option (List ℕ)) → (k : ℕ) × OneMore p.inquiry (with_chunk p o).inquiry k × ((with_chunk p o).chunks ≡ p.chunks + k)
+chunk_more p None = (0, record { one = omega arith; questions = omega arith; more_asked = omega arith }, omega arith)
+chunk_more p (Some b) = (
   1,
   record {
     one = omega arith;
-    questions = omega (arith, length_push p.inquiry.blocks (Parse p.read p.blocks b));
+    questions = omega (arith, length_push p.inquiry.chunks (Parse p.read p.chunks b));
     more_asked = refl;
   },
   refl,
@@ -125,7 +125,7 @@ taking_counted terms n p q before after is c =
       open_few = c.open_few;
       within = is.comes.within;
       few_bytes = c.few_bytes;
-      blocks = omega (arith, c.blocks, length-append p.intake.held is.piece);
+      chunks = omega (arith, c.chunks, length-append p.intake.held is.piece);
       asked = c.asked;
     })
 
@@ -140,20 +140,20 @@ noting_counted terms n p q before after is c =
       open_few = c.open_few;
       within = c.within;
       few_bytes = c.few_bytes;
-      blocks = c.blocks;
+      chunks = c.chunks;
       asked = c.asked;
     })
 
 pub cutting_counted : (terms : Terms) (n : ℕ) (p q : Underway) → MayAsk p → CutsHeld p q → Counted terms n p → Counted terms n q
 cutting_counted terms n p q may is c =
-    let more = block_more p (block_of p.intake.cutting p.intake.held) in
+    let more = chunk_more p (block_of p.intake.cutting p.intake.held) in
     let k = more.0 in
     let m = more.1 in
     let count : q.intake.count ≡ p.intake.count = ap (λ (i : Taking). i.count) is.intake in
     let held : length q.intake.held ≡ 0 = ap (λ (i : Taking). length i.held) is.intake in
     let questions : open_count q.inquiry ≡ open_count p.inquiry + k = ap open_count is.inquiry ∙ m.questions in
     let more_asked : q.inquiry.asked ≡ p.inquiry.asked + k = ap (λ (i : Inquired). i.asked) is.inquiry ∙ m.more_asked in
-    let blocks : q.blocks ≡ p.blocks + k = is.blocks ∙ more.2 in
+    let chunks : q.chunks ≡ p.chunks + k = is.chunks ∙ more.2 in
     record {
       tracks = ap length is.tracks ∙ c.tracks;
       few_sources = c.few_sources;
@@ -162,8 +162,8 @@ cutting_counted terms n p q may is c =
       open_few = omega (arith, questions, m.one, may.room);
       within = omega (arith, c.within, count);
       few_bytes = c.few_bytes;
-      blocks = omega (arith, c.blocks, blocks, count, held, m.one, is.some);
-      asked = omega (arith, more_asked, c.asked, blocks, is.read, is.checked);
+      chunks = omega (arith, c.chunks, chunks, count, held, m.one, is.some);
+      asked = omega (arith, more_asked, c.asked, chunks, is.read, is.checked);
     }
 
 pub passing_counted : (terms : Terms) (n : ℕ) (p q : Underway) → PassesOver p q → Counted terms n p → Counted terms n q
@@ -177,7 +177,7 @@ passing_counted terms n p q is c =
       open_few = c.open_few;
       within = c.within;
       few_bytes = c.few_bytes;
-      blocks = omega (arith, c.blocks);
+      chunks = omega (arith, c.chunks);
       asked = c.asked;
     })
 
@@ -192,14 +192,14 @@ stopping_counted terms n p q is c =
       open_few = c.open_few;
       within = c.within;
       few_bytes = c.few_bytes;
-      blocks = omega (arith, c.blocks);
+      chunks = omega (arith, c.chunks);
       asked = c.asked;
     })
 
 pub ending_counted : (terms : Terms) (n : ℕ) (p q : Underway) (ending : Ending) → p.read < n → MayAsk p → EndsSource ending p q → Counted terms n p →
     Counted terms n q
 ending_counted terms n p q ending unread may is c =
-    let more = block_more p is.asked in
+    let more = chunk_more p is.asked in
     let k = more.0 in
     let m = more.1 in
     let count : q.intake.count ≡ 0 = ap (λ (i : Taking). i.count) is.intake in
@@ -208,21 +208,21 @@ ending_counted terms n p q ending unread may is c =
     let more_asked : q.inquiry.asked ≡ p.inquiry.asked + k = ap (λ (i : Inquired). i.asked) is.inquiry ∙ m.more_asked in
     let few : terms.rules.limits.bytes ≤ 70368744177664 = c.few_bytes in
     record {
-      tracks = ap length is.tracks ∙ (changed_length p.read (ended_track ending p.intake.count ((with_block p is.asked).blocks)) p.tracks.items ∙ c.tracks);
+      tracks = ap length is.tracks ∙ (changed_length p.read (ended_track ending p.intake.count ((with_chunk p is.asked).chunks)) p.tracks.items ∙ c.tracks);
       few_sources = c.few_sources;
       read = omega (arith, unread, is.read);
       checked = omega (arith, c.checked, is.checked, is.read);
       open_few = omega (arith, questions, m.one, may.room);
       within = omega (arith, count);
       few_bytes = c.few_bytes;
-      blocks = omega (arith, is.blocks, held);
-      asked = omega (arith, more_asked, m.one, c.asked, c.blocks, c.within, few, is.blocks, is.read, is.checked);
+      chunks = omega (arith, is.chunks, held);
+      asked = omega (arith, more_asked, m.one, c.asked, c.chunks, c.within, few, is.chunks, is.read, is.checked);
     }
 
 -- there is always room for one more question's number
 pub may_ask : (terms : Terms) (n : ℕ) (p : Underway) → Counted terms n p → open_count p.inquiry < 64 → MayAsk p
 may_ask terms n p c room =
     let few : terms.rules.limits.bytes ≤ 70368744177664 = c.few_bytes in
-    let asked : p.inquiry.asked < 9223372036854775808 = omega (arith, c.asked, c.read, c.few_sources, c.blocks, c.within, few, c.checked) in
-    let blocks : p.blocks < 18446744073709551615 = omega (arith, c.blocks, c.within, few) in
-    record { room = room; few = asked; few_blocks = blocks }
+    let asked : p.inquiry.asked < 9223372036854775808 = omega (arith, c.asked, c.read, c.few_sources, c.chunks, c.within, few, c.checked) in
+    let chunks : p.chunks < 18446744073709551615 = omega (arith, c.chunks, c.within, few) in
+    record { room = room; few = asked; few_chunks = chunks }

@@ -7,7 +7,7 @@ use Rattle.aero_model.specs.declared.verdict.Finding.{Finding}
 use Rattle.aero_model.specs.CallCounts.{Seen}
 use Rattle.aero_report.specs.declared.form.Form.{Form}
 use Rattle.aero_report.specs.Forms.{source_line_in, source_lines_in, summary_line_in}
-use Rattle.aero_report.specs.Texts.{counts_of}
+use Rattle.aero_model.specs.Verdicts.{counts_of}
 use Rattle.aero_batch.specs.Notables.{notable_of}
 use Rattle.aero_batch.specs.declared.outcome.Cause.{Cause}
 use Rattle.aero_batch.specs.declared.outcome.Cause.TheVariants.{Memory, Write}
@@ -15,7 +15,8 @@ use Rattle.aero_batch.specs.declared.outcome.Notable.{Notable}
 use Rattle.aero_intake.specs.declared.source.SourceOf.{SourceOf}
 use Rattle.aero_intake.specs.PlanTerms.{options_in}
 use Rattle.aero_intake.specs.Source.{Origin, Sight, WasRead, origin_in}
-use Rattle.aero_verdict.specs.Finding.{Terms, IsFinding}
+use Rattle.aero_verdict.specs.Finding.{IsFinding}
+use Rattle.aero_model.specs.Terms.{Terms}
 
 -- a source at a moment, as contracts see it: its name, and its reader
 pub record Sighted : Type 0 where

@@ -4,7 +4,7 @@ use Rattle.std.specs.List.{concat}
 use Rattle.aero_model.specs.declared.verdict.Ending.{Ending}
 use Rattle.aero_model.specs.declared.verdict.Ending.TheVariants as endings
 use Rattle.aero_model.specs.CallCounts.{Seen}
-use Rattle.aero_report.specs.Texts.{no_counts}
+use Rattle.aero_model.specs.Verdicts.{no_counts, total}
 use Rattle.aero_report.specs.declared.form.Form.{Form}
 use Rattle.aero_batch.specs.declared.underway.Underway.{Underway}
 use Rattle.aero_batch.specs.declared.told.Told.{Told}
@@ -13,13 +13,13 @@ use Rattle.aero_intake.specs.Intake.{IsTaken, HaveCome}
 use Rattle.aero_intake.specs.Source.{Sight, WasRead}
 use Rattle.aero_batch.specs.Inquiries.{AreApart, all_open, open_count}
 use Rattle.aero_batch.specs.Steps.{IsStart}
-use Rattle.aero_batch.specs.Telling.{total}
 use Rattle.aero_intake.specs.Stories.{Story, AreEnough, BeginAlike, AreTracked}
-use Rattle.aero_verdict.specs.Finding.{Terms, IsFinding}
+use Rattle.aero_verdict.specs.Finding.{IsFinding}
+use Rattle.aero_model.specs.Terms.{Terms}
 
 -- of a source that was not read yet
 abbrev pub nothing_known : Story
-nothing_known = record { pieces = []; blocks = []; ending = None }
+nothing_known = record { pieces = []; chunks = []; ending = None }
 
 -- The source at place s has ended, and this is its story.
 pub record HasEnded (terms : Terms) (old now : List Sighted) (s : ℕ) (story : Story) : Type 0 where
@@ -42,8 +42,8 @@ HasComeFrom terms old now s bytes ending =
     (before after : Sighted) → slice_get old s ≡ Some before → slice_get now s ≡ Some after →
     HasCome before.reader after.reader terms.rules.limits.bytes bytes ending
 
--- The open questions on blocks and on verdicts stand apart. Each source has a story: it has ended, is being read, or was not read yet. What
--- is known of each fits its story. Of the blocks that the source that is being read was cut into, enough were asked about, and where some
+-- The open questions on chunks and on verdicts stand apart. Each source has a story: it has ended, is being read, or was not read yet. What
+-- is known of each fits its story. Of the chunks that the source that is being read was cut into, enough were asked about, and where some
 -- of it was passed over those decide. If it is read no further, some of it was passed over, and the terms ask for that. The pieces that were
 -- cut or passed over and what is held have come from it, and its reading has ended so, if it has.
 pub record Holds (terms : Terms) (old now : List Sighted) (p : Underway) (tale : ℕ → Story) : Type 0 where
@@ -52,16 +52,16 @@ pub record Holds (terms : Terms) (old now : List Sighted) (p : Underway) (tale :
   pub ended : (s : ℕ) → s < p.read → HasEnded terms old now s (tale s)
   pub cut : List (List ℕ)
   pub taken : IsTaken p.intake (tale p.read).pieces cut
-  pub enough : AreEnough terms (tale p.read).blocks cut
-  pub passed : p.intake.passed ≡ true → BeginAlike terms (tale p.read).blocks cut
+  pub enough : AreEnough terms (tale p.read).chunks cut
+  pub passed : p.intake.passed ≡ true → BeginAlike terms (tale p.read).chunks cut
   pub stopped : p.ended ≡ Some endings.Stopped → (terms.stop ≡ true) × (p.intake.passed ≡ true)
   pub come : HasComeFrom terms old now p.read (concat (tale p.read).pieces ++ p.intake.held) p.ended
-  pub asked : p.blocks ≡ length (tale p.read).blocks
+  pub asked : p.chunks ≡ length (tale p.read).chunks
   pub not_ended : (tale p.read).ending ≡ None
   pub later : (s : ℕ) → p.read < s → (tale s ≡ nothing_known) × (slice_get now s ≡ slice_get old s)
 
 -- The numbers of a run over so many sources: there is always room for one more question's number, since a source has at most 2^46 + 2
--- questions on its blocks and one on its verdict.
+-- questions on its chunks and one on its verdict.
 pub record Counted (terms : Terms) (sources : ℕ) (p : Underway) : Type 0 where
   pub tracks : length p.tracks.items ≡ sources
   pub few_sources : sources ≤ 65536
@@ -70,8 +70,8 @@ pub record Counted (terms : Terms) (sources : ℕ) (p : Underway) : Type 0 where
   pub open_few : open_count p.inquiry ≤ 64
   pub within : p.intake.count ≤ terms.rules.limits.bytes + 1
   pub few_bytes : terms.rules.limits.bytes ≤ 2 ^ 46
-  pub blocks : p.blocks + length p.intake.held ≤ p.intake.count
-  pub asked : p.inquiry.asked ≤ p.read * 70368744177666 + p.blocks + p.checked
+  pub chunks : p.chunks + length p.intake.held ≤ p.intake.count
+  pub asked : p.inquiry.asked ≤ p.read * 70368744177666 + p.chunks + p.checked
 
 -- what is told of a source fits its story
 pub record Tells (terms : Terms) (old : List Sighted) (s : ℕ) (story : Story) (found : Found) : Type 0 where

@@ -8,11 +8,11 @@ use Rattle.aero_pieces.specs.Schedule.{Entry}
 use Rattle.aero_gather.specs.Gathered.{Gathered}
 use Rattle.aero_batch.specs.declared.kind.Kind.{Kind}
 use Rattle.aero_batch.specs.declared.kind.Kind.TheVariants as kinds
-use Rattle.aero_intake.specs.Stories.{trace_of, blocks_asked, checks_asked}
+use Rattle.aero_intake.specs.Stories.{trace_of, chunks_asked, checks_asked}
 
--- the open questions on blocks and those on verdicts, the oldest first, and how many were asked
+-- the open questions on chunks and those on verdicts, the oldest first, and how many were asked
 pub record Inquired : Type 0 where
-  pub blocks : List Question
+  pub chunks : List Question
   pub verdicts : List Question
   pub asked : ℕ
 
@@ -20,34 +20,34 @@ abbrev pub questions_of : Gathered → List Question
 questions_of g = map (λ e. e.question) g.entries
 
 abbrev pub nothing_asked : Inquired
-nothing_asked = record { blocks = []; verdicts = []; asked = 0 }
+nothing_asked = record { chunks = []; verdicts = []; asked = 0 }
 
 -- all that are open
 abbrev pub all_open : Inquired → List Question
-all_open i = i.verdicts ++ i.blocks
+all_open i = i.verdicts ++ i.chunks
 
 abbrev pub open_count : Inquired → ℕ
-open_count i = length i.verdicts + length i.blocks
+open_count i = length i.verdicts + length i.chunks
 
 -- those of one kind
 abbrev pub open_of : Kind → Inquired → List Question
-open_of kinds.Parse i = i.blocks
+open_of kinds.Parse i = i.chunks
 open_of kinds.Check i = i.verdicts
 
 -- the same with these of one kind
 abbrev pub with_open : Kind → Inquired → List Question → Inquired
-with_open kinds.Parse i qs = record i { blocks = qs }
+with_open kinds.Parse i qs = record i { chunks = qs }
 with_open kinds.Check i qs = record i { verdicts = qs }
 
 -- a question of the kind is asked
 abbrev pub with_question : Kind → Inquired → Question → Inquired
-with_question kinds.Parse i q = record { blocks = i.blocks ++ q ∷ []; verdicts = i.verdicts; asked = i.asked + 1 }
-with_question kinds.Check i q = record { blocks = i.blocks; verdicts = i.verdicts ++ q ∷ []; asked = i.asked + 1 }
+with_question kinds.Parse i q = record { chunks = i.chunks ++ q ∷ []; verdicts = i.verdicts; asked = i.asked + 1 }
+with_question kinds.Check i q = record { chunks = i.chunks; verdicts = i.verdicts ++ q ∷ []; asked = i.asked + 1 }
 
--- No question on a verdict is among those on blocks, and none on a block among those on verdicts.
+-- No question on a verdict is among those on chunks, and none on a chunk among those on verdicts.
 pub record AreApart (i : Inquired) : Type 0 where
-  pub no_checks : (s : ℕ) → checks_asked s i.blocks ≡ []
-  pub no_blocks : (s : ℕ) → blocks_asked s i.verdicts ≡ []
+  pub no_checks : (s : ℕ) → checks_asked s i.chunks ≡ []
+  pub no_chunks : (s : ℕ) → chunks_asked s i.verdicts ≡ []
 
 -- The first of the questions leaves, and its value is given with the number of its trace: `left` says what stands once these are left.
 abbrev pub Gives : List Question → (List Question → Inquired) → Inquired → Option (ℕ × Value) → Type 0

@@ -13,27 +13,27 @@ use Rattle.aero_batch.specs.Inquiries.{Inquired, StaysOpen, kind_of, job_number,
 
 -- the gatherer of a kind
 abbrev pub of_kind : Kind → Gathers → Gathered
-of_kind kinds.Parse g = g.blocks
+of_kind kinds.Parse g = g.chunks
 of_kind kinds.Check g = g.verdicts
 
 -- the same with this one for a kind
 abbrev pub with_kind : Kind → Gathers → Gathered → Gathers
-with_kind kinds.Parse g gatherer = record g { blocks = gatherer }
+with_kind kinds.Parse g gatherer = record g { chunks = gatherer }
 with_kind kinds.Check g gatherer = record g { verdicts = gatherer }
 
 -- the open questions of both, and how many were asked
 abbrev pub inquired : Gathers → Inquired
-inquired g = record { blocks = questions_of g.blocks; verdicts = questions_of g.verdicts; asked = g.blocks.tally.asked + g.verdicts.tally.asked }
+inquired g = record { chunks = questions_of g.chunks; verdicts = questions_of g.verdicts; asked = g.chunks.tally.asked + g.verdicts.tally.asked }
 
 -- All questions stay open, and no more are asked.
 pub record AllStay (old new : Gathers) : Type 0 where
-  pub blocks : StaysOpen old.blocks new.blocks
+  pub chunks : StaysOpen old.chunks new.chunks
   pub verdicts : StaysOpen old.verdicts new.verdicts
 
 -- The gatherer of one kind is changed so, and the other one isn't.
 pub record ChangesOne (kind : Kind) (old new : Gathers) (changes : Gathered → Gathered → Type 0) : Type 0 where
   pub changed : changes (of_kind kind old) (of_kind kind new)
-  pub blocks : kind ≡ kinds.Check → new.blocks ≡ old.blocks
+  pub chunks : kind ≡ kinds.Check → new.chunks ≡ old.chunks
   pub verdicts : kind ≡ kinds.Parse → new.verdicts ≡ old.verdicts
 
 -- The question of the job with this number, if it is open and has no answer, is noted as missed.

@@ -19,7 +19,7 @@ use Rattle.aero_intake.specs.Intake.{nothing_taken, with_piece, with_cut, with_p
 use Rattle.aero_intake.specs.Source.{Sight}
 use Rattle.aero_intake.specs.Tracks.{is_faulty, is_told, IsDecided, with_arrival, IsReady, GivesParts}
 use Rattle.aero_intake.specs.Stories.{changed, IsSettledWith}
-use Rattle.aero_verdict.specs.Finding.{Terms}
+use Rattle.aero_model.specs.Terms.{Terms}
 
 -- before the first step
 pub record IsStart (terms : Terms) (sources : ℕ) (underway : Underway) : Type 0 where
@@ -28,19 +28,19 @@ pub record IsStart (terms : Terms) (sources : ℕ) (underway : Underway) : Type 
   pub none_read : underway.read ≡ 0
   pub none_checked : underway.checked ≡ 0
   pub intake : underway.intake ≡ nothing_taken
-  pub no_blocks : underway.blocks ≡ 0
+  pub no_chunks : underway.chunks ≡ 0
   pub reading : underway.ended ≡ None
 
 -- one more question may be asked
 pub record MayAsk (underway : Underway) : Type 0 where
   pub room : open_count underway.inquiry < 64
   pub few : underway.inquiry.asked < 2 ^ 63
-  pub few_blocks : underway.blocks < 2 ^ 64 - 1
+  pub few_chunks : underway.chunks < 2 ^ 64 - 1
 
--- the next block of the source that is being read is asked about, if there is one
-abbrev pub with_block : Underway → Option (List ℕ) → Underway
-with_block p None = p
-with_block p (Some block) = record p { inquiry = with_question kinds.Parse p.inquiry (Parse p.read p.blocks block); blocks = p.blocks + 1 }
+-- the next chunk of the source that is being read is asked about, if there is one
+abbrev pub with_chunk : Underway → Option (List ℕ) → Underway
+with_chunk p None = p
+with_chunk p (Some block) = record p { inquiry = with_question kinds.Parse p.inquiry (Parse p.read p.chunks block); chunks = p.chunks + 1 }
 
 -- whether a line of the source that is being read is known to be malformed, or one too many
 abbrev pub faulty_there : Option Track → Bool
@@ -58,7 +58,7 @@ DecidesThere (Some track) = IsDecided track
 abbrev pub HasDecided : Underway → Type 0
 HasDecided p = DecidesThere (slice_get p.tracks.items p.read)
 
--- No further block of the source that is being read counts: some of it was passed over, or what was read decides.
+-- No further chunk of the source that is being read counts: some of it was passed over, or what was read decides.
 abbrev pub HasEnough : Underway → Type 0
 HasEnough p = (p.intake.passed ≡ true) ⊎ HasDecided p
 
@@ -67,17 +67,17 @@ abbrev pub told_there : Option Track → Bool
 told_there None = false
 told_there (Some track) = is_told track
 
--- Its next block counts: nothing of it was passed over, no line is known to be malformed, or one too many, and no verdict to be certain.
+-- Its next chunk counts: nothing of it was passed over, no line is known to be malformed, or one too many, and no verdict to be certain.
 pub record GoesOn (p : Underway) : Type 0 where
   pub none_passed : p.intake.passed ≡ false
   pub no_fault : has_fault p ≡ false
   pub none_told : told_there (slice_get p.tracks.items p.read) ≡ false
 
--- The block that is asked about of the last one, if there is one: none, where it doesn't count.
+-- The chunk that is asked about of the last one, if there is one: none, where it doesn't count.
 abbrev pub IsWanted : Underway → (given asked : Option (List ℕ)) → Type 0
 IsWanted p given asked = ((asked ≡ given) × GoesOn p) ⊎ ((asked ≡ None) × HasEnough p)
 
--- the last block of a source that is whole: of another, none is asked about
+-- the last chunk of a source that is whole: of another, none is asked about
 abbrev pub last_of : Cutting → Ending → Option (List ℕ)
 last_of cutting endings.Whole = last_block cutting
 last_of cutting endings.Broken = None
@@ -86,21 +86,21 @@ last_of cutting endings.Stopped = None
 
 -- the track of a source that has ended
 abbrev pub ended_track : Ending → ℕ → ℕ → Track → Track
-ended_track endings.Whole bytes blocks t = with_arrival t bytes endings.Whole blocks
-ended_track endings.Stopped bytes blocks t = with_arrival t bytes endings.Stopped blocks
-ended_track endings.Broken bytes blocks t = Found bytes endings.Broken (findings.Broken bytes)
-ended_track endings.TooLarge bytes blocks t = Found bytes endings.TooLarge findings.TooLarge
+ended_track endings.Whole bytes chunks t = with_arrival t bytes endings.Whole chunks
+ended_track endings.Stopped bytes chunks t = with_arrival t bytes endings.Stopped chunks
+ended_track endings.Broken bytes chunks t = Found (record { bytes = bytes; ending = endings.Broken; finding = findings.Broken bytes })
+ended_track endings.TooLarge bytes chunks t = Found (record { bytes = bytes; ending = endings.TooLarge; finding = findings.TooLarge })
 
 -- The source that was being read has ended so, and the next one is to be read.
 pub record EndsSource (ending : Ending) (old new : Underway) : Type 0 where
   pub asked : Option (List ℕ)
   pub wanted : IsWanted old (last_of old.intake.cutting ending) asked
-  pub inquiry : new.inquiry ≡ (with_block old asked).inquiry
-  pub tracks : new.tracks.items ≡ changed old.read (ended_track ending old.intake.count ((with_block old asked).blocks)) old.tracks.items
+  pub inquiry : new.inquiry ≡ (with_chunk old asked).inquiry
+  pub tracks : new.tracks.items ≡ changed old.read (ended_track ending old.intake.count ((with_chunk old asked).chunks)) old.tracks.items
   pub read : new.read ≡ old.read + 1
   pub checked : new.checked ≡ old.checked
   pub intake : new.intake ≡ nothing_taken
-  pub blocks : new.blocks ≡ 0
+  pub chunks : new.chunks ≡ 0
   pub reading : new.ended ≡ None
 
 -- A piece came, by a read of at most so many bytes, and is held.
@@ -120,12 +120,12 @@ pub record NotesEnding (terms : Terms) (before after : Sight) (old new : Underwa
 abbrev pub ReadsPiece : Terms → Sight → Sight → Underway → Underway → Type 0
 ReadsPiece terms before after old new = TakesPiece terms before after old new ⊎ NotesEnding terms before after old new
 
--- What is held is cut, and the block that it gives, if it gives one, is asked about.
+-- What is held is cut, and the chunk that it gives, if it gives one, is asked about.
 pub record CutsHeld (old new : Underway) : Type 0 where
   pub some : 0 < length old.intake.held
   pub going_on : GoesOn old
-  pub inquiry : new.inquiry ≡ (with_block old (block_of old.intake.cutting old.intake.held)).inquiry
-  pub blocks : new.blocks ≡ (with_block old (block_of old.intake.cutting old.intake.held)).blocks
+  pub inquiry : new.inquiry ≡ (with_chunk old (block_of old.intake.cutting old.intake.held)).inquiry
+  pub chunks : new.chunks ≡ (with_chunk old (block_of old.intake.cutting old.intake.held)).chunks
   pub intake : new.intake ≡ with_cut old.intake
   pub tracks : new.tracks.items ≡ old.tracks.items
   pub read : new.read ≡ old.read
@@ -141,7 +141,7 @@ pub record PassesOver (old new : Underway) : Type 0 where
 abbrev pub LetsHeldGo : Underway → Underway → Type 0
 LetsHeldGo old new = CutsHeld old new ⊎ PassesOver old new
 
--- The source that is being read is read no further, and what is held of it is passed over: the terms ask for that, no further block of it counts, and
+-- The source that is being read is read no further, and what is held of it is passed over: the terms ask for that, no further chunk of it counts, and
 -- it isn't too large.
 pub record StopsReading (terms : Terms) (old new : Underway) : Type 0 where
   pub asked_for : terms.stop ≡ true
@@ -163,7 +163,7 @@ ReadsOn terms before after old new =
     ((old.ended ≡ None) × (ReadsPiece terms before after old new ⊎ ((after ≡ before) × StopsReading terms old new)))
     ⊎ (((after ≡ before) × LetsHeldGo old new) ⊎ ((after ≡ before) × PassesOn old new))
 
--- the verdict is asked for on what the blocks of a source say
+-- the verdict is asked for on what the chunks of a source say
 abbrev pub with_check : Terms → Inquired → ℕ → Option (List Reading) → Inquired
 with_check terms i trace None = i
 with_check terms i trace (Some parts) = with_question kinds.Check i (Check trace parts terms.rules.limits terms.rules.labels terms.order terms.explain)
@@ -181,7 +181,7 @@ pub record ChecksNext (terms : Terms) (old new : Underway) : Type 0 where
   pub checked : new.checked ≡ old.checked + 1
   pub read : new.read ≡ old.read
   pub intake : new.intake ≡ old.intake
-  pub blocks : new.blocks ≡ old.blocks
+  pub chunks : new.chunks ≡ old.chunks
   pub ended : new.ended ≡ old.ended
 
 -- The value of the first of the questions, if there is one, goes to the track of its source: `left` says what stands once these are left.
@@ -195,7 +195,7 @@ pub record SettlesNext (kind : Kind) (old new : Underway) : Type 0 where
   pub read : new.read ≡ old.read
   pub checked : new.checked ≡ old.checked
   pub intake : new.intake ≡ old.intake
-  pub blocks : new.blocks ≡ old.blocks
+  pub chunks : new.chunks ≡ old.chunks
   pub ended : new.ended ≡ old.ended
 
 -- The reader of one source was used, and nothing else was done to the sources.

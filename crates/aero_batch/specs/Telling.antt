@@ -2,11 +2,9 @@
 use Rattle.std.specs.Prelude.{◌≡◌, ℕ, ◌+◌, ◌<◌, Bool, true, false, List, [], ◌∷◌, ◌++◌, length, take, vec_len, vec_capacity, Option, None, Some, Result, Ok}
 use Rattle.std.specs.Prelude.{Err}
 use Rattle.std.specs.Io.KnownBytes.{Appends}
-use Rattle.aero_model.specs.declared.verdict.Counts.{Counts}
-use Rattle.aero_model.specs.declared.verdict.Ending.{Ending}
-use Rattle.aero_model.specs.declared.verdict.Finding.{Finding}
+use Rattle.aero_model.specs.declared.verdict.Found as model
 use Rattle.aero_model.specs.CallCounts.{Seen}
-use Rattle.aero_report.specs.Texts.{counted}
+use Rattle.aero_model.specs.Verdicts.{counted, total}
 use Rattle.aero_report.specs.declared.form.Form.{Form}
 use Rattle.aero_report.specs.Forms.{source_line_in}
 use Rattle.aero_batch.specs.declared.outcome.Cause.{Cause}
@@ -16,9 +14,6 @@ use Rattle.aero_intake.specs.declared.track.Track.{Track}
 use Rattle.aero_intake.specs.declared.track.Track.TheVariants.{Found}
 use Rattle.aero_batch.specs.Notables.{notable_of}
 use Rattle.aero_batch.specs.Founds.{Took}
-
-abbrev pub total : Counts → ℕ
-total counts = counts.serializable + counts.pending + counts.violations + counts.faults
 
 -- one more source may be told
 pub record HasRoom (told : Told) : Type 0 where
@@ -45,22 +40,25 @@ SumsUp text (Some why) before after cause = (after ≡ before) × (cause ≡ Som
 SumsUp text None before after None = Took before after text
 SumsUp text None before after (Some why) = TellsText text before after (Err why)
 
--- One more source is told.
-pub record IsOneMore (old new : Told) (bytes : ℕ) (ending : Ending) (finding : Finding) : Type 0 where
-  pub endings : new.endings.items ≡ old.endings.items ++ (bytes, ending) ∷ []
+-- One more source is told, of which this was found.
+pub record IsOneMore (old new : Told) (found : model.Found) : Type 0 where
+  pub endings : new.endings.items ≡ old.endings.items ++ (found.bytes, found.ending) ∷ []
   pub room : vec_capacity new.endings ≡ vec_capacity old.endings
-  pub notables : new.notables.items ≡ old.notables.items ++ notable_of finding ∷ []
+  pub notables : new.notables.items ≡ old.notables.items ++ notable_of found.finding ∷ []
   pub notables_room : vec_capacity new.notables ≡ vec_capacity old.notables
-  pub counts : new.counts ≡ counted old.counts finding
+  pub counts : new.counts ≡ counted old.counts found.finding
   pub counted_one : total new.counts ≡ total old.counts + 1
+
+-- The source of which this was found is told.
+abbrev pub TellsFound : Form → List ℕ → model.Found → Seen → Seen → Told → Told → Result Bool Cause → Type 0
+TellsFound form name f before after old new (Ok true) = Took before after (source_line_in form name f.finding) × IsOneMore old new f
+TellsFound form name f before after old new (Ok false) = ⊥
+TellsFound form name f before after old new (Err Memory) = Took before after [] × (new ≡ old)
+TellsFound form name f before after old new (Err Write) = WasCut before after (source_line_in form name f.finding) × (new ≡ old)
 
 -- The source is told where it is found what is to be said of it, and else nothing happens.
 abbrev pub TellsNext : Form → List ℕ → Track → Seen → Seen → Told → Told → Result Bool Cause → Type 0
-TellsNext form name (Found bytes ending finding) before after old new (Ok true) = Took before after (source_line_in form name finding)
-    × IsOneMore old new bytes ending finding
-TellsNext form name (Found bytes ending finding) before after old new (Err Memory) = Took before after [] × (new ≡ old)
-TellsNext form name (Found bytes ending finding) before after old new (Err Write) = WasCut before after (source_line_in form name finding) × (new ≡ old)
-TellsNext form name (Found bytes ending finding) before after old new (Ok false) = ⊥
+TellsNext form name (Found f) before after old new result = TellsFound form name f before after old new result
 TellsNext form name track before after old new (Ok false) = (after ≡ before) × (new ≡ old)
 TellsNext form name track before after old new _ = ⊥
 

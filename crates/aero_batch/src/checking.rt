@@ -26,7 +26,8 @@ pub fn check_next<H: Helpers, T: Wait>(
 ) -> Result<(), AllocError>
     requires may { MayAsk underway.old }
     requires unchecked { underway.old.checked < vec_len underway.old.tracks }
-    requires ready { (t : Track) → slice_get underway.old.tracks.items underway.old.checked ≡ Some t → IsReady t }
+    requires ready { (t : Track) →
+        slice_get underway.old.tracks.items underway.old.checked ≡ Some t → IsReady t }
     ensures { OnOk result (ChecksNext (terms_of setting.now.plan.now) underway.old underway.new) }
 {
     let place = underway.checked;
@@ -45,7 +46,8 @@ fn ask_check<H: Helpers, T: Wait>(
 ) -> Result<(), AllocError>
     requires room { open_count inquiry.old < 64 }
     requires few { inquiry.old.asked < 2 ^ 63 }
-    ensures { OnOk result (inquiry.new ≡ with_check (terms_of setting.now.plan.now) inquiry.old trace parts) }
+    ensures { OnOk result (inquiry.new ≡ with_check (terms_of setting.now.plan.now) inquiry.old
+        trace parts) }
 {
     let Some(parts) = parts else {
         return Ok(());
@@ -61,7 +63,8 @@ fn check_question(
     parts: Parts,
 ) -> Result<Arc<Question, Global>, AllocError>
     ensures { IfOk result (λ question. arc_value question ≡
-        Question.Check trace parts plan.now.terms.rules.limits plan.now.terms.rules.labels plan.now.terms.order plan.now.terms.explain) }
+        Question.Check trace parts plan.now.terms.rules.limits plan.now.terms.rules.labels
+        plan.now.terms.order plan.now.terms.explain) }
 {
     Question::Check {
         trace,
@@ -105,7 +108,8 @@ fn give_value(
     plan: &Plan,
 ) -> Result<(), AllocError>
     ensures { OnOk result ((certain : Bool) × (tracks.new.items ≡
-        changed trace (λ t. with_value (most_kept plan.now.keeping trace (length tracks.old.items)) certain t value) tracks.old.items)) }
+        changed trace (λ t. with_value (most_kept plan.now.keeping trace (length tracks.old.items))
+        certain t value) tracks.old.items)) }
 {
     let count = tracks.len() as u64;
     if trace >= count {

@@ -7,11 +7,11 @@ ghost use Rattle.aero_batch.specs.Lending.{LendsOfKind};
 use crate::kind::Kind;
 use aero_gather::Gather;
 
-/// The questions on blocks, and those on verdicts, each in the order in which they were asked. The verdict
+/// The questions on chunks, and those on verdicts, each in the order in which they were asked. The verdict
 /// on a long source is worked out for long: meanwhile questions on later sources are settled.
 #[derive(Drop)]
 pub struct Gathers {
-    pub blocks: Gather,
+    pub chunks: Gather,
     pub verdicts: Gather,
 }
 
@@ -21,7 +21,7 @@ impl Gathers {
         ensures { result.now ≡ of_kind kind self.now }
     {
         match kind {
-            Kind::Parse => &self.blocks,
+            Kind::Parse => &self.chunks,
             Kind::Check => &self.verdicts,
         }
     }
@@ -32,7 +32,7 @@ impl Gathers {
         ensures value { result.now ≡ of_kind kind self.old }
     {
         match kind {
-            Kind::Parse => &mut self.blocks,
+            Kind::Parse => &mut self.chunks,
             Kind::Check => &mut self.verdicts,
         }
     }

@@ -41,9 +41,9 @@ impl Model for Inquiry {
     ghost view = { λ i. inquired i.gathers };
 
     ghost invariant = { λ i. record {
-      block_window : i.gathers.blocks.window ≡ 64;
+      chunk_window : i.gathers.chunks.window ≡ 64;
       verdict_window : i.gathers.verdicts.window ≡ 64;
-      few : i.gathers.blocks.tally.asked + i.gathers.verdicts.tally.asked ≤ 2 ^ 63;
+      few : i.gathers.chunks.tally.asked + i.gathers.verdicts.tally.asked ≤ 2 ^ 63;
     } };
 }
 
@@ -54,7 +54,7 @@ impl Inquiry {
     {
         Ok(Inquiry {
             gathers: Gathers {
-                blocks: Gather::new(alloc, WINDOW)?,
+                chunks: Gather::new(alloc, WINDOW)?,
                 verdicts: Gather::new(alloc, WINDOW)?,
             },
             listening: Listening {
@@ -68,19 +68,19 @@ impl Inquiry {
     pub fn has_room(&self) -> bool
         ensures { IsTrue result ↔ (open_count self.now < 64) }
     {
-        self.gathers.blocks.len() + self.gathers.verdicts.len() < WINDOW as usize
+        self.gathers.chunks.len() + self.gathers.verdicts.len() < WINDOW as usize
     }
 
     /// Whether no question is open.
     pub fn is_settled(&self) -> bool
         ensures { IsTrue result ↔ (open_count self.now ≡ 0) }
     {
-        self.gathers.blocks.len() == 0 && self.gathers.verdicts.len() == 0
+        self.gathers.chunks.len() == 0 && self.gathers.verdicts.len() == 0
     }
 
-    /// The kind of which a question is to be awaited next: blocks, where one is asked about.
+    /// The kind of which a question is to be awaited next: chunks, where one is asked about.
     pub fn awaited(&self) -> Kind {
-        if self.gathers.blocks.len() == 0 {
+        if self.gathers.chunks.len() == 0 {
             Kind::Check
         } else {
             Kind::Parse
@@ -93,12 +93,12 @@ impl Inquiry {
         ensures counted { result.kept + result.done_here ≤ result.asked }
         ensures settled { open_count self.now ≡ 0 → result.asked ≡ result.kept + result.done_here }
     {
-        let blocks = self.gathers.blocks.tally();
+        let chunks = self.gathers.chunks.tally();
         let verdicts = self.gathers.verdicts.tally();
         Tally {
-            asked: blocks.asked + verdicts.asked,
-            kept: blocks.kept + verdicts.kept,
-            done_here: blocks.done_here + verdicts.done_here,
+            asked: chunks.asked + verdicts.asked,
+            kept: chunks.kept + verdicts.kept,
+            done_here: chunks.done_here + verdicts.done_here,
         }
     }
 
@@ -142,7 +142,8 @@ impl Inquiry {
         kind: Kind,
         is_last: bool,
     ) -> Result<Option<(u64, Value)>, AllocError>
-        ensures { IfOk result (λ given. Gives (open_of kind self.old) (with_open kind self.old) self.new given) }
+        ensures { IfOk result (λ given. Gives (open_of kind self.old) (with_open kind self.old)
+            self.new given) }
     {
         self.listening = await_oldest(rt, helpers, &mut self.gathers, kind, self.listening);
         let hands_on = self.is_freed_soon(helpers, kind, is_last);
@@ -150,11 +151,11 @@ impl Inquiry {
     }
 
     // Whether a helper frees what is let go at a verdict before more is kept. Not each may be at another verdict,
-    // which can take long; and either blocks are asked about, before which it is freed, or nothing more is read. Before
-    // the first block of a source that may be slow it would be kept meanwhile.
+    // which can take long; and either chunks are asked about, before which it is freed, or nothing more is read. Before
+    // the first chunk of a source that may be slow it would be kept meanwhile.
     fn is_freed_soon<H: Helpers>(&self, helpers: &H, kind: Kind, is_last: bool) -> bool {
         let is_one_free = self.gathers.verdicts.len() <= helpers.workers() as usize;
-        let is_next_soon = is_last || self.gathers.blocks.len() > 0;
+        let is_next_soon = is_last || self.gathers.chunks.len() > 0;
         kind == Kind::Check && !self.listening.is_alone && is_one_free && is_next_soon
     }
 }
@@ -181,7 +182,8 @@ fn post<H: Helpers, R: Wait>(
     is_alone: bool,
     job: Job,
 ) -> bool
-    ensures awaited { MatchBool result (gathers.new ≡ gathers.old) (Misses job.number gathers.old gathers.new) }
+    ensures awaited { MatchBool result (gathers.new ≡ gathers.old)
+        (Misses job.number gathers.old gathers.new) }
     ensures alone { is_alone ≡ true → result ≡ false }
     ensures stay { AllStay gathers.old gathers.new }
 {
@@ -237,7 +239,8 @@ fn take_front<H: Helpers, R: Wait>(
 
 // Takes the oldest open question away, and gives it and its value.
 fn settle_known(gather: &mut Gather) -> Result<Option<Settled>, AllocError>
-    ensures known { IfOk result (λ given. SettlesKnown gather.old gather.old.entries gather.new (value_of given)) }
+    ensures known { IfOk result (λ given. SettlesKnown gather.old gather.old.entries gather.new
+        (value_of given)) }
     ensures unchanged { OnErr result (gather.new ≡ gather.old) }
 {
     gather.settle_with_question()

@@ -1,6 +1,6 @@
 //! The kinds of questions.
 
-/// What a question is about: what a block says, or what the verdict on a whole source is.
+/// What a question is about: what a chunk says, or what the verdict on a whole source is.
 #[derive(Clone, Copy, Debug, PartialEq, Eq)]
 pub enum Kind {
     Parse,

@@ -1,7 +1,7 @@
 //! A run over many sources: each is read and judged, and the report is written.
 //!
-//! `run` reads the sources one after the other. Each is cut into blocks of whole lines, as often as 262,144
-//! bytes of it have come, and a crew of workers reads the blocks and finds the verdicts. The lines of the
+//! `run` reads the sources one after the other. Each is cut into chunks of whole lines, as often as 262,144
+//! bytes of it have come, and a crew of workers reads the chunks and finds the verdicts. The lines of the
 //! report stand in the order of the sources, and each says what the definitions say of the bytes that were
 //! read, whatever the pieces, the number of workers and the order of their answers: `specs/Founds.antt` has
 //! it in full.
@@ -42,8 +42,8 @@
 //!   of the next text follows: `ran`.
 //! - It holds of each run that returns, whichever answers come, in whatever order, lost, repeated or forged. Any
 //!   `Helpers` may give them, of which a `Crew` is one, or nobody: `run_over`.
-//! - A block is asked about only while nothing of its source was passed over, and it isn't told that what was read
-//!   decides: `step`, over `GoesOn`. The value of a block goes to its source's track, of which as much is kept as the
+//! - A chunk is asked about only while nothing of its source was passed over, and it isn't told that what was read
+//!   decides: `step`, over `GoesOn`. The value of a chunk goes to its source's track, of which as much is kept as the
 //!   plan says: `give_value`.
 //! - `run_over` says how many helpers it had, and `run` no more than were asked for: `workers`. Answers kept and values
 //!   worked out here are no more than the questions, and as many where nothing was refused: `tallied`, `all_settled`.

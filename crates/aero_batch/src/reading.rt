@@ -1,10 +1,10 @@
-//! Reading the sources, and asking about their blocks.
+//! Reading the sources, and asking about their chunks.
 ghost use Rattle.std.specs.Prelude.{◌≡◌, ◌<◌, ◌≤◌, ◌+◌, ◌^◌, length, vec_len, None, if◌then◌else◌, IfOk, IfSome, OnOk, Some, true, false};
 ghost use Rattle.std.specs.Arc.{arc_value};
 ghost use Rattle.aero_intake.specs.PlanTerms.{terms_of};
 ghost use Rattle.aero_intake.specs.Intake.{nothing_taken, with_passing};
 ghost use Rattle.aero_intake.specs.Source.{origin_in};
-ghost use Rattle.aero_batch.specs.Steps.{MayAsk, ReadsOn, ReadsPiece, CutsHeld, LetsHeldGo, StopsReading, HasEnough, GoesOn, EndsSource, with_block, last_of, ended_track};
+ghost use Rattle.aero_batch.specs.Steps.{MayAsk, ReadsOn, ReadsPiece, CutsHeld, LetsHeldGo, StopsReading, HasEnough, GoesOn, EndsSource, with_chunk, last_of, ended_track};
 
 use crate::helpers::Helpers;
 use crate::kind::Kind;
@@ -14,13 +14,13 @@ use aero_intake::intake::Taken;
 use aero_intake::track::{Track, arrive, is_decided};
 use aero_intake::{Followed, Intake, Plan};
 use aero_lines::Block;
-use aero_model::{Ending, Finding};
+use aero_model::{Ending, Finding, Found};
 use aero_pieces::{Bytes, Question};
 use std::alloc::{AllocError, Global};
 use std::sync::{Arc, Wait};
 
 /// One step of reading the next source: a piece of it comes, or is known not to come any more; or it is read no
-/// further, where the plan asks for that and what was read before decides; or what is held of it is cut, and its block
+/// further, where the plan asks for that and what was read before decides; or what is held of it is cut, and its chunk
 /// asked about, or is passed over where what was read before decides; or, once nothing is held, it is noted how it has
 /// ended. An `AllocError` says that memory was refused.
 pub fn read_on<R: Followed, H: Helpers, T: Wait>(
@@ -32,7 +32,8 @@ pub fn read_on<R: Followed, H: Helpers, T: Wait>(
     requires may { MayAsk underway.old }
     requires unread { underway.old.read < vec_len underway.old.tracks }
     requires within { underway.old.intake.count ≤ setting.now.plan.now.terms.rules.limits.bytes + 1 }
-    ensures reads { OnOk result (ReadsOn (terms_of setting.now.plan.now) (R.sight reader.old) (R.sight reader.new)
+    ensures reads { OnOk result (ReadsOn (terms_of setting.now.plan.now) (R.sight reader.old)
+        (R.sight reader.new)
         underway.old underway.new) }
     ensures origin { origin_in (R.sight reader.new) ≡ origin_in (R.sight reader.old) }
 {
@@ -52,12 +53,13 @@ pub fn read_on<R: Followed, H: Helpers, T: Wait>(
     }
 }
 
-// Whether the source is read no further: the plan asks for that, no further block of it counts, and it isn't too large.
+// Whether the source is read no further: the plan asks for that, no further chunk of it counts, and it isn't too large.
 fn stops_here(plan: &Plan, underway: &Underway) -> bool
     requires { underway.now.read < vec_len underway.now.tracks }
     ensures asked_for { result ≡ true → (terms_of plan.now).stop ≡ true }
     ensures enough { result ≡ true → HasEnough underway.now }
-    ensures within { result ≡ true → underway.now.intake.count ≤ (terms_of plan.now).rules.limits.bytes }
+    ensures within { result ≡ true →
+        underway.now.intake.count ≤ (terms_of plan.now).rules.limits.bytes }
 {
     plan.terms.stop()
         && underway.intake.count() <= plan.terms.limits().bytes
@@ -66,7 +68,8 @@ fn stops_here(plan: &Plan, underway: &Underway) -> bool
 
 // Reads the source no further, and passes over what is held of it.
 fn stop_reading(underway: &mut Underway)
-    ensures { underway.new ≡ record underway.old { intake = with_passing underway.old.intake; ended = Some Ending.Stopped } }
+    ensures { underway.new ≡ record underway.old
+        { intake = with_passing underway.old.intake; ended = Some Ending.Stopped } }
 {
     underway.intake.pass_over();
     underway.ended = Some(Ending::Stopped);
@@ -89,7 +92,8 @@ fn read_piece<R: Followed>(plan: &Plan, reader: &mut R, underway: &mut Underway)
     requires reading { underway.old.ended ≡ None }
     requires not_full { length underway.old.intake.held < 2 ^ 18 }
     requires within { underway.old.intake.count ≤ plan.now.terms.rules.limits.bytes + 1 }
-    ensures { ReadsPiece (terms_of plan.now) (R.sight reader.old) (R.sight reader.new) underway.old underway.new }
+    ensures { ReadsPiece (terms_of plan.now) (R.sight reader.old) (R.sight reader.new) underway.old
+        underway.new }
 {
     underway.ended = match underway
         .intake
@@ -100,8 +104,8 @@ fn read_piece<R: Followed>(plan: &Plan, reader: &mut R, underway: &mut Underway)
     };
 }
 
-// Passes over what is held of the source that is being read, where no further block of it counts, and else cuts it
-// and asks about its block.
+// Passes over what is held of the source that is being read, where no further chunk of it counts, and else cuts it
+// and asks about its chunk.
 fn let_held_go<H: Helpers, T: Wait>(
     setting: &Setting<'_, T>,
     helpers: &mut H,
@@ -119,7 +123,7 @@ fn let_held_go<H: Helpers, T: Wait>(
     cut_held(setting, helpers, underway)
 }
 
-// Whether no further block of the source that is being read counts.
+// Whether no further chunk of the source that is being read counts.
 fn has_enough(underway: &Underway) -> bool
     requires { underway.now.read < vec_len underway.now.tracks }
     ensures enough { result ≡ true → HasEnough underway.now }
@@ -131,7 +135,7 @@ fn has_enough(underway: &Underway) -> bool
     is_decided(&underway.tracks[underway.read])
 }
 
-// Cuts what is held of the source that is being read, and asks about its block.
+// Cuts what is held of the source that is being read, and asks about its chunk.
 fn cut_held<H: Helpers, T: Wait>(
     setting: &Setting<'_, T>,
     helpers: &mut H,
@@ -144,11 +148,11 @@ fn cut_held<H: Helpers, T: Wait>(
     ensures { OnOk result (CutsHeld underway.old underway.new) }
 {
     let block = underway.intake.cut()?;
-    ask_block(setting, helpers, underway, block)
+    ask_chunk(setting, helpers, underway, block)
 }
 
-// Asks about the next block of the source that is being read, if there is one.
-fn ask_block<H: Helpers, T: Wait>(
+// Asks about the next chunk of the source that is being read, if there is one.
+fn ask_chunk<H: Helpers, T: Wait>(
     setting: &Setting<'_, T>,
     helpers: &mut H,
     underway: &mut Underway,
@@ -157,20 +161,20 @@ fn ask_block<H: Helpers, T: Wait>(
     requires may { MayAsk underway.old }
     requires unread { underway.old.read < vec_len underway.old.tracks }
     requires short { IfSome block (λ bytes. length bytes ≤ 2 ^ 30) }
-    ensures { OnOk result (underway.new ≡ with_block underway.old block) }
+    ensures { OnOk result (underway.new ≡ with_chunk underway.old block) }
 {
     let Some(block) = block else {
         return Ok(());
     };
-    let question = block_question(setting.alloc, underway.read as u64, underway.blocks, block)?;
+    let question = chunk_question(setting.alloc, underway.read as u64, underway.chunks, block)?;
     underway
         .inquiry
         .ask(setting.rt, helpers, Kind::Parse, question)?;
-    underway.blocks += 1;
+    underway.chunks += 1;
     Ok(())
 }
 
-fn block_question(
+fn chunk_question(
     alloc: Global,
     trace: u64,
     number: u64,
@@ -190,7 +194,7 @@ fn block_question(
     .share(alloc)
 }
 
-// Notes how the source that was being read has ended, once its last block is asked about.
+// Notes how the source that was being read has ended, once its last chunk is asked about.
 fn end_source<H: Helpers, T: Wait>(
     setting: &Setting<'_, T>,
     helpers: &mut H,
@@ -204,23 +208,24 @@ fn end_source<H: Helpers, T: Wait>(
     let bytes = underway.intake.count();
     let enough = has_enough(underway);
     let last = last_block(&mut underway.intake, ending, enough)?;
-    ask_block(setting, helpers, underway, last)?;
+    ask_chunk(setting, helpers, underway, last)?;
     let place = underway.read;
-    end_track(&mut underway.tracks[place], ending, bytes, underway.blocks);
-    underway.blocks = 0;
+    end_track(&mut underway.tracks[place], ending, bytes, underway.chunks);
+    underway.chunks = 0;
     underway.ended = None;
     underway.read += 1;
     Ok(())
 }
 
-// The last block of a source that is whole, unless it doesn't count. Of another nothing more is asked. The next
+// The last chunk of a source that is whole, unless it doesn't count. Of another nothing more is asked. The next
 // source may be read then.
 fn last_block(
     intake: &mut Intake,
     ending: Ending,
     enough: bool,
 ) -> Result<Option<Block>, AllocError>
-    ensures last { IfOk result (λ block. block ≡ (if enough then None else last_of intake.old.cutting ending)) }
+    ensures last { IfOk result (λ block. block ≡
+        (if enough then None else last_of intake.old.cutting ending)) }
     ensures short { IfOk result (λ block. IfSome block (λ bytes. length bytes ≤ 2 ^ 30)) }
     ensures fresh { intake.new ≡ nothing_taken }
 {
@@ -231,20 +236,20 @@ fn last_block(
     }
 }
 
-fn end_track(track: &mut Track, ending: Ending, bytes: u64, blocks: u64)
-    ensures { track.new ≡ ended_track ending bytes blocks track.old }
+fn end_track(track: &mut Track, ending: Ending, bytes: u64, chunks: u64)
+    ensures { track.new ≡ ended_track ending bytes chunks track.old }
 {
     let finding = match ending {
         Ending::Whole | Ending::Stopped => {
-            arrive(track, bytes, ending, blocks);
+            arrive(track, bytes, ending, chunks);
             return;
         }
         Ending::Broken => Finding::Broken(bytes),
         Ending::TooLarge => Finding::TooLarge,
     };
-    *track = Track::Found {
+    *track = Track::Found(Found {
         bytes,
         ending,
         finding,
-    };
+    });
 }

@@ -35,7 +35,8 @@ pub fn await_oldest<H: Helpers, R: Wait>(
     kind: Kind,
     listening: Listening,
 ) -> Listening
-    ensures ended { result.is_alone ≡ false → (oldest_of (of_kind kind gathers.new).entries ≡ Awaited → ⊥) }
+    ensures ended { result.is_alone ≡ false →
+        (oldest_of (of_kind kind gathers.new).entries ≡ Awaited → ⊥) }
     ensures stay { AllStay gathers.old gathers.new }
 {
     if listening.is_alone {
@@ -114,7 +115,7 @@ pub fn answered(gathers: &Gathers) -> Option<Kind>
     if is_answered(&gathers.verdicts) {
         return Some(Kind::Check);
     }
-    if is_answered(&gathers.blocks) {
+    if is_answered(&gathers.chunks) {
         return Some(Kind::Parse);
     }
     None
@@ -122,7 +123,8 @@ pub fn answered(gathers: &Gathers) -> Option<Kind>
 
 // Whether a question is open, and the oldest has an answer or none is to be awaited.
 fn is_answered(gather: &Gather) -> bool
-    ensures { IsTrue result ↔ ((oldest_of gather.now.entries ≡ Oldest.Kept) ⊎ (oldest_of gather.now.entries ≡ Oldest.Missed)) }
+    ensures { IsTrue result ↔ ((oldest_of gather.now.entries ≡ Oldest.Kept) ⊎
+        (oldest_of gather.now.entries ≡ Oldest.Missed)) }
 {
     match gather.oldest() {
         Oldest::Kept | Oldest::Missed => true,

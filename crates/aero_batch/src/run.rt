@@ -1,7 +1,7 @@
 //! A run over many sources.
 ghost use Rattle.std.specs.Prelude.{◌≡◌, ◌≤◌, ◌+◌, None, Some, true, false, length, map, vec_len, [], IfOk, IfErr, OnOk};
 ghost use Rattle.aero_report.specs.Forms.{summary_line_in};
-ghost use Rattle.aero_report.specs.Texts.{no_counts};
+ghost use Rattle.aero_model.specs.Verdicts.{no_counts};
 ghost use Rattle.aero_model.specs.CallCounts.{seen_by};
 ghost use Rattle.aero_intake.specs.PlanTerms.{options_in, terms_of};
 ghost use Rattle.aero_intake.specs.Source.{counted};
@@ -16,11 +16,11 @@ use crate::outcome::{Cause, Outcome};
 use crate::setting::Setting;
 use crate::standing::Standing;
 use crate::step::step;
-use crate::told::{Style, Told, nothing_counted, sum_up, tell_next};
+use crate::told::{Style, Told, sum_up, tell_next};
 use crate::underway::Underway;
 use aero_gather::Tally;
 use aero_intake::{Followed, Plan, Source, SourceOf};
-use aero_model::Counting;
+use aero_model::{Counting, Counts};
 use aero_worker::{Crew, Gate};
 use std::alloc::{AllocError, Global};
 use std::io::{Read, Write};
@@ -28,7 +28,7 @@ use std::sync::{Arc, Wait};
 use std::thread::Threads;
 
 /// Reads the sources, one after the other, and writes the report: the line of each source, in their
-/// order, and the summary. As many workers as the plan says read blocks and find verdicts, or as many
+/// order, and the summary. As many workers as the plan says read chunks and find verdicts, or as many
 /// as the system gives, and the gate runs in each of them. Where none can be started all is done
 /// here. However many they are, and in whatever order they answer, the report is the same.
 ///
@@ -45,9 +45,13 @@ pub fn run<R: Read, W: Write, G: Gate + Drop + 'static, T: Threads + Wait + Copy
     gate: Arc<G>,
 ) -> Outcome
     requires { length sources.old ≤ 65536 }
-    ensures ran { WasRun (terms_of plan.now) plan.now.form (map (sighted (counted R.remaining)) sources.old) (map (sighted (counted R.remaining)) sources.new)
-        (seen_by W.contents writer.old) (seen_by W.contents writer.new) result.endings.items result.notables.items result.counts result.cause }
-    ensures all_settled { result.cause ≡ None → result.tally.asked ≡ result.tally.kept + result.tally.done_here }
+    ensures ran { WasRun (terms_of plan.now) plan.now.form
+        (map (sighted (counted R.remaining)) sources.old)
+        (map (sighted (counted R.remaining)) sources.new)
+        (seen_by W.contents writer.old) (seen_by W.contents writer.new) result.endings.items
+        result.notables.items result.counts result.cause }
+    ensures all_settled { result.cause ≡ None →
+        result.tally.asked ≡ result.tally.kept + result.tally.done_here }
     ensures tallied { result.tally.kept + result.tally.done_here ≤ result.tally.asked }
     ensures workers { result.workers ≤ plan.now.workers }
 {
@@ -71,9 +75,13 @@ pub fn run_over<R: Read, W: Write, H: Helpers, T: Wait>(
     helpers: &mut H,
 ) -> Outcome
     requires { length sources.old ≤ 65536 }
-    ensures ran { WasRun (terms_of plan.now) plan.now.form (map (sighted (counted R.remaining)) sources.old) (map (sighted (counted R.remaining)) sources.new)
-        (seen_by W.contents writer.old) (seen_by W.contents writer.new) result.endings.items result.notables.items result.counts result.cause }
-    ensures all_settled { result.cause ≡ None → result.tally.asked ≡ result.tally.kept + result.tally.done_here }
+    ensures ran { WasRun (terms_of plan.now) plan.now.form
+        (map (sighted (counted R.remaining)) sources.old)
+        (map (sighted (counted R.remaining)) sources.new)
+        (seen_by W.contents writer.old) (seen_by W.contents writer.new) result.endings.items
+        result.notables.items result.counts result.cause }
+    ensures all_settled { result.cause ≡ None →
+        result.tally.asked ≡ result.tally.kept + result.tally.done_here }
     ensures tallied { result.tally.kept + result.tally.done_here ≤ result.tally.asked }
     ensures workers { result.workers ≡ H.count helpers.old }
 {
@@ -96,9 +104,12 @@ pub fn run_lines<
     gate: Arc<G>,
 ) -> Outcome
     requires { length sources.old ≤ 65536 }
-    ensures told { WasTold (terms_of setting.now.plan.now) setting.now.plan.now.form (map (sighted R.sight) sources.old) (map (sighted R.sight) sources.new)
-        (seen_by W.contents writer.old) (seen_by W.contents writer.new) result.endings.items result.notables.items result.counts result.cause }
-    ensures all_settled { result.cause ≡ None → result.tally.asked ≡ result.tally.kept + result.tally.done_here }
+    ensures told { WasTold (terms_of setting.now.plan.now) setting.now.plan.now.form
+        (map (sighted R.sight) sources.old) (map (sighted R.sight) sources.new)
+        (seen_by W.contents writer.old) (seen_by W.contents writer.new) result.endings.items
+        result.notables.items result.counts result.cause }
+    ensures all_settled { result.cause ≡ None →
+        result.tally.asked ≡ result.tally.kept + result.tally.done_here }
     ensures tallied { result.tally.kept + result.tally.done_here ≤ result.tally.asked }
     ensures workers { result.workers ≤ setting.now.plan.now.workers }
 {
@@ -119,9 +130,12 @@ pub fn run_lines_over<R: Followed, W: Write, H: Helpers, T: Wait>(
     helpers: &mut H,
 ) -> Outcome
     requires { length sources.old ≤ 65536 }
-    ensures told { WasTold (terms_of setting.now.plan.now) setting.now.plan.now.form (map (sighted R.sight) sources.old) (map (sighted R.sight) sources.new)
-        (seen_by W.contents writer.old) (seen_by W.contents writer.new) result.endings.items result.notables.items result.counts result.cause }
-    ensures all_settled { result.cause ≡ None → result.tally.asked ≡ result.tally.kept + result.tally.done_here }
+    ensures told { WasTold (terms_of setting.now.plan.now) setting.now.plan.now.form
+        (map (sighted R.sight) sources.old) (map (sighted R.sight) sources.new)
+        (seen_by W.contents writer.old) (seen_by W.contents writer.new) result.endings.items
+        result.notables.items result.counts result.cause }
+    ensures all_settled { result.cause ≡ None →
+        result.tally.asked ≡ result.tally.kept + result.tally.done_here }
     ensures tallied { result.tally.kept + result.tally.done_here ≤ result.tally.asked }
     ensures workers { result.workers ≡ H.count helpers.old }
 {
@@ -147,7 +161,8 @@ fn with_summary<W: Write>(
     ensures counts { result.counts ≡ outcome.counts }
     ensures tally { result.tally ≡ outcome.tally }
     ensures workers { result.workers ≡ outcome.workers }
-    ensures summed { SumsUp (summary_line_in plan.now.form (options_in (terms_of plan.now)) outcome.counts) outcome.cause
+    ensures summed { SumsUp (summary_line_in plan.now.form (options_in (terms_of plan.now))
+        outcome.counts) outcome.cause
         (seen_by W.contents writer.old) (seen_by W.contents writer.new) result.cause }
     ensures whole { result.cause ≡ None → outcome.cause ≡ None }
 {
@@ -179,7 +194,8 @@ fn refused(alloc: Global, workers: u32) -> Outcome
     ensures notables { result.notables.items ≡ [] }
     ensures counts { result.counts ≡ no_counts }
     ensures cause { result.cause ≡ Some Cause.Memory }
-    ensures nothing { (result.tally.asked ≡ 0) × (result.tally.kept ≡ 0) × (result.tally.done_here ≡ 0) }
+    ensures nothing { (result.tally.asked ≡ 0) × (result.tally.kept ≡ 0) ×
+        (result.tally.done_here ≡ 0) }
     ensures workers { result.workers ≡ workers }
 {
     let tally = Tally {
@@ -190,7 +206,7 @@ fn refused(alloc: Global, workers: u32) -> Outcome
     Outcome {
         endings: Vec::new(alloc),
         notables: Vec::new(alloc),
-        counts: nothing_counted(),
+        counts: Counts::none(),
         cause: Some(Cause::Memory),
         tally,
         workers,
@@ -205,7 +221,8 @@ fn outcome_of(standing: Standing, cause: Option<Cause>, workers: u32) -> Outcome
     ensures cause { result.cause ≡ cause }
     ensures asked { result.tally.asked ≡ standing.underway.inquiry.asked }
     ensures tallied { result.tally.kept + result.tally.done_here ≤ result.tally.asked }
-    ensures settled { open_count standing.underway.inquiry ≡ 0 → result.tally.asked ≡ result.tally.kept + result.tally.done_here }
+    ensures settled { open_count standing.underway.inquiry ≡ 0 →
+        result.tally.asked ≡ result.tally.kept + result.tally.done_here }
     ensures workers { result.workers ≡ workers }
 {
     let Standing { underway, told } = standing;
@@ -232,11 +249,16 @@ fn run_on<R: Followed, W: Write, H: Helpers, T: Wait>(
     helpers: &mut H,
     standing: &mut Standing,
 ) -> Result<(), Cause>
-    requires { IsBegun (terms_of setting.now.plan.now) (length sources.old) standing.old.underway standing.old.told }
-    ensures done { OnOk result (HasRun setting.now.plan.now (map (sighted R.sight) sources.old) (map (sighted R.sight) sources.new)
+    requires { IsBegun (terms_of setting.now.plan.now) (length sources.old) standing.old.underway
+        standing.old.told }
+    ensures done { OnOk result (HasRun setting.now.plan.now (map (sighted R.sight) sources.old)
+        (map (sighted R.sight) sources.new)
         (seen_by W.contents writer.old) (seen_by W.contents writer.new) standing.new.told None) }
-    ensures stopped { IfErr result (λ cause. HasRun setting.now.plan.now (map (sighted R.sight) sources.old) (map (sighted R.sight) sources.new)
-        (seen_by W.contents writer.old) (seen_by W.contents writer.new) standing.new.told (Some cause)) }
+    ensures stopped { IfErr result
+        (λ cause. HasRun setting.now.plan.now (map (sighted R.sight) sources.old)
+        (map (sighted R.sight) sources.new)
+        (seen_by W.contents writer.old) (seen_by W.contents writer.new) standing.new.told
+        (Some cause)) }
     ensures settled { OnOk result (open_count standing.new.underway.inquiry ≡ 0) }
 {
     'steps: for _ in setting.rt.forever() {
@@ -255,13 +277,21 @@ fn advance<R: Followed, W: Write, H: Helpers, T: Wait>(
     helpers: &mut H,
     standing: &mut Standing,
 ) -> Result<bool, Cause>
-    requires { HasNumbers (terms_of setting.now.plan.now) (length sources.old) standing.old.underway standing.old.told }
-    ensures stands { OnOk result (KeepsStanding setting.now.plan.now (map (sighted R.sight) sources.old) (map (sighted R.sight) sources.new)
-        (seen_by W.contents writer.old) (seen_by W.contents writer.new) standing.old.underway standing.new.underway standing.old.told standing.new.told) }
-    ensures stopped { IfErr result (StopsRun setting.now.plan.now (map (sighted R.sight) sources.old) (map (sighted R.sight) sources.new)
-        (seen_by W.contents writer.old) (seen_by W.contents writer.new) standing.old.underway standing.old.told standing.new.told) }
-    ensures all_told { IfOk result (λ is_done. is_done ≡ true → vec_len standing.new.told.endings ≡ length sources.new) }
-    ensures all_settled { IfOk result (λ is_done. is_done ≡ true → open_count standing.new.underway.inquiry ≡ 0) }
+    requires { HasNumbers (terms_of setting.now.plan.now) (length sources.old) standing.old.underway
+        standing.old.told }
+    ensures stands { OnOk result (KeepsStanding setting.now.plan.now
+        (map (sighted R.sight) sources.old) (map (sighted R.sight) sources.new)
+        (seen_by W.contents writer.old) (seen_by W.contents writer.new) standing.old.underway
+        standing.new.underway standing.old.told standing.new.told) }
+    ensures stopped { IfErr result
+        (StopsRun setting.now.plan.now (map (sighted R.sight) sources.old)
+        (map (sighted R.sight) sources.new)
+        (seen_by W.contents writer.old) (seen_by W.contents writer.new) standing.old.underway
+        standing.old.told standing.new.told) }
+    ensures all_told { IfOk result (λ is_done. is_done ≡ true →
+        vec_len standing.new.told.endings ≡ length sources.new) }
+    ensures all_settled { IfOk result (λ is_done. is_done ≡ true →
+        open_count standing.new.underway.inquiry ≡ 0) }
 {
     if tell_ready(
         setting,
@@ -308,12 +338,17 @@ fn tell_ready<R: Followed, W: Write, T>(
 ) -> Result<bool, Cause>
     requires { HasNumbers (terms_of setting.now.plan.now) (length sources.now) underway.now told.old }
     ensures stands { IfOk result (λ is_told. is_told ≡ true →
-        KeepsStanding setting.now.plan.now (map (sighted R.sight) sources.now) (map (sighted R.sight) sources.now)
-        (seen_by W.contents writer.old) (seen_by W.contents writer.new) underway.now underway.now told.old told.new) }
+        KeepsStanding setting.now.plan.now (map (sighted R.sight) sources.now)
+        (map (sighted R.sight) sources.now)
+        (seen_by W.contents writer.old) (seen_by W.contents writer.new) underway.now underway.now
+        told.old told.new) }
     ensures unchanged { IfOk result (λ is_told. is_told ≡ false →
         (seen_by W.contents writer.new ≡ seen_by W.contents writer.old) × (told.new ≡ told.old)) }
-    ensures stopped { IfErr result (StopsRun setting.now.plan.now (map (sighted R.sight) sources.now) (map (sighted R.sight) sources.now)
-        (seen_by W.contents writer.old) (seen_by W.contents writer.new) underway.now told.old told.new) }
+    ensures stopped { IfErr result
+        (StopsRun setting.now.plan.now (map (sighted R.sight) sources.now)
+        (map (sighted R.sight) sources.now)
+        (seen_by W.contents writer.old) (seen_by W.contents writer.new) underway.now told.old
+        told.new) }
 {
     let place = told.endings.len();
     if place >= underway.checked {

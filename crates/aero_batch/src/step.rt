@@ -28,11 +28,14 @@ pub fn step<R: Followed, H: Helpers, T: Wait>(
     underway: &mut Underway,
 ) -> Result<(), AllocError>
     requires { Counted (terms_of setting.now.plan.now) (length sources.old) underway.old }
-    ensures steps { OnOk result (Steps (terms_of setting.now.plan.now) (map (sighted R.sight) sources.old)
+    ensures steps { OnOk result (Steps (terms_of setting.now.plan.now)
+        (map (sighted R.sight) sources.old)
         (map (sighted R.sight) sources.new) underway.old underway.new) }
-    ensures names { map whose (map (sighted R.sight) sources.new) ≡ map whose (map (sighted R.sight) sources.old) }
+    ensures names { map whose (map (sighted R.sight) sources.new) ≡
+        map whose (map (sighted R.sight) sources.old) }
     ensures others { (s : ℕ) → (underway.old.read ≡ s → ⊥) →
-        slice_get (map (sighted R.sight) sources.new) s ≡ slice_get (map (sighted R.sight) sources.old) s }
+        slice_get (map (sighted R.sight) sources.new) s ≡
+        slice_get (map (sighted R.sight) sources.old) s }
 {
     let answered = underway.inquiry.hear(setting.rt, helpers);
     step_on(setting, sources, helpers, underway, answered)
@@ -47,11 +50,14 @@ fn step_on<R: Followed, H: Helpers, T: Wait>(
     answered: Option<Kind>,
 ) -> Result<(), AllocError>
     requires { Counted (terms_of setting.now.plan.now) (length sources.old) underway.old }
-    ensures steps { OnOk result (Steps (terms_of setting.now.plan.now) (map (sighted R.sight) sources.old)
+    ensures steps { OnOk result (Steps (terms_of setting.now.plan.now)
+        (map (sighted R.sight) sources.old)
         (map (sighted R.sight) sources.new) underway.old underway.new) }
-    ensures names { map whose (map (sighted R.sight) sources.new) ≡ map whose (map (sighted R.sight) sources.old) }
+    ensures names { map whose (map (sighted R.sight) sources.new) ≡
+        map whose (map (sighted R.sight) sources.old) }
     ensures others { (s : ℕ) → (underway.old.read ≡ s → ⊥) →
-        slice_get (map (sighted R.sight) sources.new) s ≡ slice_get (map (sighted R.sight) sources.old) s }
+        slice_get (map (sighted R.sight) sources.new) s ≡
+        slice_get (map (sighted R.sight) sources.old) s }
 {
     let kind = next_kind(&underway.inquiry, answered);
     if !underway.inquiry.has_room() {

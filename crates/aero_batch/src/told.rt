@@ -3,13 +3,13 @@ ghost use Rattle.std.specs.Prelude.{◌≡◌, ◌<◌, ◌≤◌, ◌+◌, ◌+
 ghost use Rattle.aero_model.specs.CallCounts.{seen_by};
 ghost use Rattle.aero_report.specs.Asked.{options_of};
 ghost use Rattle.aero_report.specs.Forms.{summary_line_in};
-ghost use Rattle.aero_report.specs.Texts.{no_counts, counted, verdict_counted};
+ghost use Rattle.aero_model.specs.Verdicts.{no_counts};
 ghost use Rattle.aero_batch.specs.Notables.{notable_of as notable_in, verdict_notable as verdict_notable_in};
-ghost use Rattle.aero_batch.specs.Telling.{SumsUp, TellsNext, TellsText, HasRoom, total};
+ghost use Rattle.aero_batch.specs.Telling.{SumsUp, TellsFound, TellsNext, TellsText, HasRoom};
 
 use crate::outcome::{Cause, Fault, FaultyLine, Notable};
 use aero_intake::track::Track;
-use aero_model::{Counting, Counts, Ending, Finding, Verdict};
+use aero_model::{Counting, Counts, Ending, Finding, Found, Verdict};
 use aero_report::{Form, Options, put, source_text, totals_text};
 use std::alloc::{AllocError, Global};
 use std::io::Write;
@@ -35,20 +35,8 @@ impl Told {
         Ok(Told {
             endings: Vec::with_capacity(alloc, sources)?,
             notables: Vec::with_capacity(alloc, sources)?,
-            counts: nothing_counted(),
+            counts: Counts::none(),
         })
-    }
-}
-
-/// No source is counted yet.
-pub fn nothing_counted() -> Counts
-    ensures { result ≡ no_counts }
-{
-    Counts {
-        serializable: 0,
-        pending: 0,
-        violations: 0,
-        faults: 0,
     }
 }
 
@@ -57,14 +45,6 @@ pub fn nothing_counted() -> Counts
 pub struct Style {
     pub alloc: Global,
     pub form: Form,
-}
-
-/// What is said of a source: how many bytes came, how they ended, and what was found of it.
-#[derive(Clone, Copy)]
-pub struct Said<'a> {
-    pub bytes: u64,
-    pub ending: Ending,
-    pub finding: &'a Finding,
 }
 
 /// Writes the text of the next source, where it is found what is to be said of it, and notes its
@@ -77,42 +57,35 @@ pub fn tell_next<W: Write>(
     told: &mut Told,
 ) -> Result<bool, Cause>
     requires room { HasRoom told.old }
-    ensures { TellsNext style.form name.now track.now (seen_by W.contents writer.old) (seen_by W.contents writer.new) told.old told.new result }
+    ensures { TellsNext style.form name.now track.now (seen_by W.contents writer.old)
+        (seen_by W.contents writer.new) told.old told.new result }
 {
     match track {
-        Track::Found {
-            bytes,
-            ending,
-            finding,
-        } => {
-            let said = Said {
-                bytes: *bytes,
-                ending: *ending,
-                finding,
-            };
-            tell_found(style, name, said, writer, told)
-        }
-        _ => Ok(false),
+        Track::Found(found) => tell_found(style, name, found, writer, told),
+        Track::Arriving(_) | Track::Arrived { .. } | Track::Checking { .. } => Ok(false),
     }
 }
 
-/// Writes the text of the next source, of which this is said, and notes its ending: the answer is true. A refusal changes
-/// nothing that was told.
+/// Writes the text of the next source, of which this was found, and notes its ending: the result is `Ok(true)`. An `Err`
+/// changes nothing that was told.
 pub fn tell_found<W: Write>(
     style: Style,
     name: &[u8],
-    said: Said<'_>,
+    found: &Found,
     writer: &mut Counting<W>,
     told: &mut Told,
 ) -> Result<bool, Cause>
     requires room { HasRoom told.old }
-    ensures { TellsNext style.form name.now (Track.Found said.entry.bytes said.entry.ending said.entry.finding.now) (seen_by W.contents writer.old) (seen_by W.contents writer.new) told.old told.new result }
+    ensures { TellsFound style.form name.now found.now (seen_by W.contents writer.old)
+        (seen_by W.contents writer.new) told.old told.new result }
 {
-    let text = source_text(style.alloc, style.form, name, said.finding).map_err(|_| Cause::Memory)?;
+    let text = source_text(style.alloc, style.form, name, &found.finding).map_err(
+        |_| Cause::Memory,
+    )?;
     tell(writer, &text)?;
-    told.endings.push_reserved((said.bytes, said.ending));
-    told.notables.push_reserved(notable_of(said.finding));
-    told.counts = with_finding(&told.counts, said.finding);
+    told.endings.push_reserved((found.bytes, found.ending));
+    told.notables.push_reserved(notable_of(&found.finding));
+    told.counts = told.counts.with(&found.finding);
     Ok(true)
 }
 
@@ -123,7 +96,8 @@ pub fn tell_summary<W: Write>(
     counts: &Counts,
     writer: &mut Counting<W>,
 ) -> Result<(), Cause>
-    ensures { TellsText (summary_line_in style.form (options_of options.entry) counts.now) (seen_by W.contents writer.old) (seen_by W.contents writer.new) result }
+    ensures { TellsText (summary_line_in style.form (options_of options.entry) counts.now)
+        (seen_by W.contents writer.old) (seen_by W.contents writer.new) result }
 {
     let text = totals_text(style.alloc, style.form, options, counts).map_err(|_| Cause::Memory)?;
     tell(writer, &text)
@@ -138,7 +112,8 @@ pub fn sum_up<W: Write>(
     stopped: Option<Cause>,
     writer: &mut Counting<W>,
 ) -> Option<Cause>
-    ensures summed { SumsUp (summary_line_in style.form (options_of options.entry) counts.now) stopped (seen_by W.contents writer.old) (seen_by W.contents writer.new) result }
+    ensures summed { SumsUp (summary_line_in style.form (options_of options.entry) counts.now)
+        stopped (seen_by W.contents writer.old) (seen_by W.contents writer.new) result }
     ensures whole { result ≡ None → stopped ≡ None }
 {
     match stopped {
@@ -152,7 +127,8 @@ pub fn sum_up<W: Write>(
 
 // Writes a text.
 fn tell<W: Write>(writer: &mut Counting<W>, text: &[u8]) -> Result<(), Cause>
-    ensures { TellsText text.now (seen_by W.contents writer.old) (seen_by W.contents writer.new) result }
+    ensures { TellsText text.now (seen_by W.contents writer.old) (seen_by W.contents writer.new)
+        result }
 {
     match put(writer, text) {
         Ok(()) => Ok(()),
@@ -160,16 +136,13 @@ fn tell<W: Write>(writer: &mut Counting<W>, text: &[u8]) -> Result<(), Cause>
     }
 }
 
-// What is noted of a source of which this is said.
+// What is noted of a source of which this was found.
 fn notable_of(finding: &Finding) -> Option<Notable>
     ensures { result ≡ notable_in finding.now }
 {
-    match finding {
-        Finding::Judged(verdict) => verdict_notable(verdict),
-        Finding::Ordered(verdict, _) => verdict_notable(verdict),
-        Finding::Explained(verdict, _) => verdict_notable(verdict),
-        Finding::Opened(verdict, _) => verdict_notable(verdict),
-        Finding::Broken(_) | Finding::TooLarge => None,
+    match finding.verdict() {
+        Some(verdict) => verdict_notable(verdict),
+        None => None,
     }
 }
 
@@ -188,38 +161,4 @@ fn verdict_notable(verdict: &Verdict) -> Option<Notable>
         Verdict::Serializable { blocks: 0, .. } => Some(Notable::Unchecked),
         _ => None,
     }
-}
-
-// The counts with one more source.
-fn with_finding(counts: &Counts, finding: &Finding) -> Counts
-    requires { total counts.now < 65536 }
-    ensures counts { result ≡ counted counts.now finding.now }
-    ensures total { total result ≡ total counts.now + 1 }
-{
-    match finding {
-        Finding::Judged(verdict) => with_verdict(counts, verdict),
-        Finding::Ordered(verdict, _) => with_verdict(counts, verdict),
-        Finding::Explained(verdict, _) => with_verdict(counts, verdict),
-        Finding::Opened(verdict, _) => with_verdict(counts, verdict),
-        Finding::Broken(_) | Finding::TooLarge => Counts {
-            faults: counts.faults + 1,
-            ..*counts
-        },
-    }
-}
-
-// The counts with one more verdict.
-fn with_verdict(counts: &Counts, verdict: &Verdict) -> Counts
-    requires { total counts.now < 65536 }
-    ensures counts { result ≡ verdict_counted counts.now verdict.now }
-    ensures total { total result ≡ total counts.now + 1 }
-{
-    let mut counts = *counts;
-    match verdict {
-        Verdict::Serializable { .. } => counts.serializable += 1,
-        Verdict::Pending { .. } => counts.pending += 1,
-        Verdict::Violation { .. } => counts.violations += 1,
-        _ => counts.faults += 1,
-    }
-    counts
 }

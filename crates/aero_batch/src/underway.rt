@@ -21,9 +21,9 @@ pub struct Underway {
     pub read: usize,
     /// Of how many sources the verdict was asked for, where they need one.
     pub checked: usize,
-    /// The source that is being read, and how many of its blocks were asked about.
+    /// The source that is being read, and how many of its chunks were asked about.
     pub intake: Intake,
-    pub blocks: u64,
+    pub chunks: u64,
     /// How its reading has ended, where it has: what is held is still to be cut then.
     pub ended: Option<Ending>,
 }
@@ -44,7 +44,7 @@ impl Underway {
             read: 0,
             checked: 0,
             intake: Intake::new(alloc, plan.piece)?,
-            blocks: 0,
+            chunks: 0,
             ended: None,
         })
     }
@@ -52,7 +52,8 @@ impl Underway {
 
 // Nothing is known yet of so many sources, which are judged on the plan's terms.
 fn new_tracks(alloc: Global, plan: &Plan, sources: usize) -> Result<Vec<Track>, AllocError>
-    ensures { IfOk result (λ tracks. tracks.items ≡ replicate sources (Track.Arriving (nothing_read (terms_of plan.now)))) }
+    ensures { IfOk result (λ tracks. tracks.items ≡
+        replicate sources (Track.Arriving (nothing_read (terms_of plan.now)))) }
 {
     let mut tracks = Vec::with_capacity(alloc, sources)?;
     for i in 0..sources {

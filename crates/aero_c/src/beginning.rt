@@ -5,7 +5,7 @@ ghost use Rattle.aero_c.specs.Answers.{AreLimitsOf, Begins, IsBegun};
 use crate::holder::{Holder, put};
 use crate::status::{DONE, IN_USE, NO_MEMORY};
 use aero_feed::Feed;
-use aero_model::{Except, Limits};
+use aero_model::{Except, Limits, SharedExcept, Terms};
 use std::alloc::{AllocError, Global};
 
 // Begins a trace with these labels, if the monitor has none. With `explains` its violation is to be shown.
@@ -16,7 +16,8 @@ pub(crate) fn begin(
     explains: bool,
     except: Except,
 ) -> u32
-    ensures { Begins monitor.old.pointer.held monitor.new.pointer.held result is_long explains except }
+    ensures { Begins monitor.old.pointer.held monitor.new.pointer.held result is_long explains
+        except }
 {
     if monitor.is_held {
         return IN_USE;
@@ -42,12 +43,9 @@ fn begun(alloc: Global, is_long: bool, explains: bool, except: Except) -> Option
 fn feed_of(alloc: Global, is_long: bool, explains: bool, except: Except) -> Result<Feed, AllocError>
     ensures { IfOk result (λ feed. IsBegun feed is_long explains except) }
 {
-    let limits = limits(is_long);
-    if explains {
-        Feed::explaining(alloc, &limits, except)
-    } else {
-        Ok(Feed::new(alloc, &limits, except))
-    }
+    let except = SharedExcept::new(alloc, except)?;
+    let terms = Terms::new(limits(is_long), except, false, explains);
+    Feed::new(alloc, terms)
 }
 
 // The limits of a source, or those of a long one.

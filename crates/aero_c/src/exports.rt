@@ -17,7 +17,8 @@ use std::alloc::Global;
 /// `NO_MEMORY`: it has what it had then.
 #[unsafe(no_mangle)]
 pub extern "C" fn aerodrome_held_begin(alloc: Global, monitor: &mut Holder, is_long: bool) -> u32
-    ensures { Begins monitor.old.pointer.held monitor.new.pointer.held result is_long false (these []) }
+    ensures { Begins monitor.old.pointer.held monitor.new.pointer.held result is_long false
+        (these []) }
 {
     match Except::new(Vec::new(alloc)) {
         Some(except) => begin(alloc, monitor, is_long, false, except),
@@ -38,7 +39,8 @@ pub extern "C" fn aerodrome_held_begin_labelled(
     labels: &[u8],
     is_only: bool,
 ) -> u32
-    ensures { BeginsLabelled monitor.old.pointer.held monitor.new.pointer.held result is_long is_only false labels.now }
+    ensures { BeginsLabelled monitor.old.pointer.held monitor.new.pointer.held result is_long
+        is_only false labels.now }
 {
     match list(alloc, labels, is_only) {
         Ok(listed) => begin(alloc, monitor, is_long, false, listed),
@@ -57,7 +59,8 @@ pub extern "C" fn aerodrome_held_begin_explained(
     labels: &[u8],
     is_only: bool,
 ) -> u32
-    ensures { BeginsLabelled monitor.old.pointer.held monitor.new.pointer.held result is_long is_only true labels.now }
+    ensures { BeginsLabelled monitor.old.pointer.held monitor.new.pointer.held result is_long
+        is_only true labels.now }
 {
     match list(alloc, labels, is_only) {
         Ok(listed) => begin(alloc, monitor, is_long, true, listed),
@@ -69,7 +72,8 @@ pub extern "C" fn aerodrome_held_begin_explained(
 /// and `NO_MEMORY`, as each call for the trace does from then on.
 #[unsafe(no_mangle)]
 pub extern "C" fn aerodrome_held_feed(alloc: Global, monitor: &mut Holder, piece: &[u8]) -> u32
-    ensures { Answers monitor.old.pointer.held monitor.new.pointer.held result (λ was now. now.text ≡ was.text ++ piece.now) }
+    ensures { Answers monitor.old.pointer.held monitor.new.pointer.held result
+        (λ was now. now.text ≡ was.text ++ piece.now) }
 {
     let Some(mut feed) = take(alloc, monitor) else {
         return UNHELD;
@@ -87,7 +91,8 @@ pub extern "C" fn aerodrome_held_certain(
     monitor: &mut Holder,
     is_certain: &mut u32,
 ) -> u32
-    ensures { Answers monitor.old.pointer.held monitor.new.pointer.held result (λ was now. IsAsked was now is_certain.new) }
+    ensures { Answers monitor.old.pointer.held monitor.new.pointer.held result
+        (λ was now. IsAsked was now is_certain.new) }
 {
     let Some(mut feed) = take(alloc, monitor) else {
         return UNHELD;

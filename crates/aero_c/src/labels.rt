@@ -7,8 +7,8 @@ ghost use Rattle.aero_c.specs.Statuses.{many_labels, no_memory, no_name};
 ghost use Rattle.aero_c.specs.Labels.{IsListOf, is_ended as is_ended_text, is_no_name};
 
 use crate::status::{MANY_LABELS, NO_MEMORY, NO_NAME};
+use aero_grammar::bytes::first_line;
 use aero_model::{Except, Name, NameFault};
-use memchr::memchr;
 use std::alloc::Global;
 
 // The labels of the text, each ended by a byte 10: of blocks that are no transactions, or of the only blocks that are. Or
@@ -45,7 +45,9 @@ fn list_of(labels: Vec<Name>, is_only: bool) -> Result<Except, u32>
 fn names(alloc: Global, text: &[u8]) -> Result<Vec<Name>, u32>
     ensures read { IfOk result (λ labels. labels.items ≡ lines_of text.now) }
     ensures named { OnOk result (list_any is_no_name (lines_of text.now) ≡ false) }
-    ensures refused { IfErr result (λ status. ((status ≡ no_name) × (list_any is_no_name (lines_of text.now) ≡ true)) ⊎ (status ≡ no_memory)) }
+    ensures refused { IfErr result
+        (λ status. ((status ≡ no_name) × (list_any is_no_name (lines_of text.now) ≡ true)) ⊎
+        (status ≡ no_memory)) }
 {
     let mut labels = Vec::new(alloc);
     let mut rest = text;
@@ -57,23 +59,12 @@ fn names(alloc: Global, text: &[u8]) -> Result<Vec<Name>, u32>
     Ok(labels)
 }
 
-// The first line of a text that isn't empty, and what follows it.
-fn first_line(text: &[u8]) -> (&[u8], &[u8])
-    requires { 0 < length text.now }
-    ensures lines { lines_of text.now ≡ result.0.now ∷ lines_of result.1.now }
-    ensures shorter { length result.1.now < length text.now }
-{
-    match memchr(b'\n', text) {
-        Some(end) => (&text[..end], &text[end + 1..]),
-        None => (text, &text[text.len()..]),
-    }
-}
-
 // Adds the name that the line is, or says why not.
 fn push_name(alloc: Global, labels: &mut Vec<Name>, line: &[u8]) -> Result<(), u32>
     ensures pushed { OnOk result (labels.new.items ≡ labels.old.items ++ line.now ∷ []) }
     ensures named { OnOk result (is_no_name line.now ≡ false) }
-    ensures refused { IfErr result (λ status. ((status ≡ no_name) × (is_no_name line.now ≡ true)) ⊎ (status ≡ no_memory)) }
+    ensures refused { IfErr result (λ status. ((status ≡ no_name) × (is_no_name line.now ≡ true)) ⊎
+        (status ≡ no_memory)) }
 {
     let label = match Name::read(alloc, line) {
         Ok(label) => label,

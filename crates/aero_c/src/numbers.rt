@@ -39,7 +39,14 @@ pub(crate) fn in_numbers(verdict: &Verdict) -> Numbers
 }
 
 fn counts(kind: u32, events: u32, blocks: u32, open_blocks: u32) -> Numbers
-    ensures { result ≡ record { kind = kind; line = 0; begun = 0; events = events; blocks = blocks; open_blocks = open_blocks } }
+    ensures { result ≡ record {
+      kind = kind;
+      line = 0;
+      begun = 0;
+      events = events;
+      blocks = blocks;
+      open_blocks = open_blocks;
+    } }
 {
     Numbers {
         kind,
@@ -52,7 +59,14 @@ fn counts(kind: u32, events: u32, blocks: u32, open_blocks: u32) -> Numbers
 }
 
 fn lines(kind: u32, line: u32, begun: u32) -> Numbers
-    ensures { result ≡ record { kind = kind; line = line; begun = begun; events = 0; blocks = 0; open_blocks = 0 } }
+    ensures { result ≡ record {
+      kind = kind;
+      line = line;
+      begun = begun;
+      events = 0;
+      blocks = 0;
+      open_blocks = 0;
+    } }
 {
     Numbers {
         kind,

@@ -56,7 +56,8 @@ impl Clock {
     pub fn join(&mut self, other: &Clock) -> Result<(), AllocError>
         ensures ok { OnOk result (IsJoin self.new self.old other.now) }
         ensures err { OnErr result (IsSame self.new self.old) }
-        ensures room { ((t : ℕ) → 0 < number_at other.now t → 0 < number_at self.old t) → IsOk result }
+        ensures room { ((t : ℕ) → 0 < number_at other.now t → 0 < number_at self.old t) →
+            IsOk result }
     {
         join(&mut self.pairs, &other.pairs)
     }

@@ -217,7 +217,8 @@ pub fn join(pairs: &mut Vec<(u32, u32)>, others: &[(u32, u32)]) -> Result<(), Al
     requires nonzero { HasNoZero pairs.old.items }
     requires other { IsRising others.now }
     requires other_nonzero { HasNoZero others.now }
-    ensures ok { OnOk result ((t : ℕ) → number_in pairs.new.items t ≡ max (number_in pairs.old.items t) (number_in others.now t)) }
+    ensures ok { OnOk result ((t : ℕ) →
+        number_in pairs.new.items t ≡ max (number_in pairs.old.items t) (number_in others.now t)) }
     ensures err { OnErr result (pairs.new.items ≡ pairs.old.items) }
     ensures room { Covers pairs.old.items others.now → IsOk result }
     ensures rising { IsRising pairs.new.items }
@@ -240,7 +241,9 @@ pub fn raise(pairs: &mut Vec<(u32, u32)>, t: u32) -> Result<(), AllocError>
     requires rising { IsRising pairs.old.items }
     requires nonzero { HasNoZero pairs.old.items }
     requires room { number_in pairs.old.items t < 2 ^ 32 - 1 }
-    ensures ok { OnOk result ((u : ℕ) → number_in pairs.new.items u ≡ (if u == t then number_in pairs.old.items u + 1 else number_in pairs.old.items u)) }
+    ensures ok { OnOk result ((u : ℕ) →
+        number_in pairs.new.items u ≡ (if u == t then number_in pairs.old.items u + 1 else number_in
+        pairs.old.items u)) }
     ensures err { OnErr result (pairs.new.items ≡ pairs.old.items) }
     ensures counted { 0 < number_in pairs.old.items t → IsOk result }
     ensures rising { IsRising pairs.new.items }

@@ -75,8 +75,10 @@ impl Closer {
     ///
     /// `AllocError` if memory is refused now, or was before. From then on the closer knows nothing.
     pub fn finish(&mut self) -> Result<Vec<u8>, AllocError>
-        ensures lines { (came : List ℕ) → HasSeen self.old came → IfOk result (λ lines. lines.items ≡ closing_lines came) }
-        ensures seen { (came : List ℕ) → HasSeen self.old came → HasSeen self.new (came ++ line_end came) }
+        ensures lines { (came : List ℕ) → HasSeen self.old came →
+            IfOk result (λ lines. lines.items ≡ closing_lines came) }
+        ensures seen { (came : List ℕ) → HasSeen self.old came →
+            HasSeen self.new (came ++ line_end came) }
         ensures refused { OnErr result (self.new.refused ≡ true) }
     {
         let is_cut = !self.line.is_empty();
@@ -88,7 +90,8 @@ impl Closer {
 
     // The lines that end the blocks which are open, after the end of a line that is cut.
     fn lines_after(&self, is_cut: bool) -> Result<Vec<u8>, AllocError>
-        ensures { IfOk result (λ text. (self.now.refused ≡ false) × (text.items ≡ after_end is_cut (flat_map end_lines self.now.counts))) }
+        ensures { IfOk result (λ text. (self.now.refused ≡ false) ×
+            (text.items ≡ after_end is_cut (flat_map end_lines self.now.counts))) }
     {
         if self.refused {
             return Err(AllocError);
@@ -100,7 +103,8 @@ impl Closer {
     fn hold(&mut self, bytes: &[u8])
         ensures counts { self.new.counts ≡ self.old.counts }
         ensures refused { self.new.refused ≡ false → self.old.refused ≡ false }
-        ensures line { self.new.refused ≡ false → self.new.line ≡ self.old.line ++ take (4097 - length self.old.line) bytes.now }
+        ensures line { self.new.refused ≡ false →
+            self.new.line ≡ self.old.line ++ take (4097 - length self.old.line) bytes.now }
     {
         let room = (MOST_LINE_BYTES + 1).saturating_sub(self.line.len());
         let front = &bytes[..bytes.len().min(room)];
@@ -112,7 +116,9 @@ impl Closer {
     // These bytes end the line that wasn't whole.
     fn end_line(&mut self, front: &[u8])
         ensures refused { self.new.refused ≡ false → self.old.refused ≡ false }
-        ensures counts { self.new.refused ≡ false → self.new.counts ≡ noted_said self.old.counts (event_said (meaning (self.old.line ++ front.now))) }
+        ensures counts { self.new.refused ≡ false →
+            self.new.counts ≡ noted_said self.old.counts
+            (event_said (meaning (self.old.line ++ front.now))) }
         ensures line { self.new.line ≡ [] }
     {
         if self.line.is_empty() {
@@ -127,7 +133,8 @@ impl Closer {
     // Notes the event of the line, if it has one.
     fn see(&mut self, line: &[u8])
         ensures refused { self.new.refused ≡ false → self.old.refused ≡ false }
-        ensures counts { self.new.refused ≡ false → self.new.counts ≡ noted_said self.old.counts (event_said (meaning line.now)) }
+        ensures counts { self.new.refused ≡ false →
+            self.new.counts ≡ noted_said self.old.counts (event_said (meaning line.now)) }
         ensures line { self.new.line ≡ self.old.line }
     {
         match event_of(self.alloc, line) {

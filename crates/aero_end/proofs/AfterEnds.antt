@@ -1,26 +1,22 @@
 -- What is kept of a trace after the end of a block.
-use Rattle.std.proofs.Common.{◌≡◌, ◌≢◌, ◌↔◌, ◌⊎◌, inl, inr, ⊎_elim, ℕ, suc, ◌<◌, ◌≤◌, List, [], ◌∷◌, ◌++◌, length, Option, Some, None, refl, sym, ap, ◌∙◌, subst, le_refl, arith, length-append}
-use Rattle.std.specs.Prelude.{◌==◌, ◌||◌, nat_lt, nat_le, Bool, true, false, if◌then◌else◌, slice_get}
-use Rattle.std.proofs.lemmas.Bool.{cases_Bool, cases_lt, cases_eq, both_ways, eq-eqb, ne_eqb, lt-ltb, le-ltb, le-leb, leb-true, cond-true, cond-false, and_right, and_parts}
-use Rattle.std.proofs.lemmas.List.Folds.{list_any-append}
-use Rattle.std.proofs.lemmas.Option.{same_Some}
+use Rattle.std.proofs.Common.{◌≡◌, ◌≢◌, ◌↔◌, ⊎_elim, ℕ, suc, ◌<◌, ◌≤◌, List, [], ◌∷◌, ◌++◌, length, Option, Some, None, refl, sym, ap, ◌∙◌, subst, le_refl, arith}
+use Rattle.std.specs.Prelude.{◌==◌, ◌&&◌, nat_lt, nat_le, Bool, true, false}
+use Rattle.std.proofs.lemmas.Bool.{cases_Bool, cases_lt, cases_eq, both_ways, eq-eqb, ne_eqb, lt-ltb, le-leb, leb-true, ltb-true, cond-true, cond-false, and_right}
 use Rattle.aero_model.specs.declared.numbered.Numbered.{Numbered}
-use Rattle.aero_model.specs.declared.numbered.What.{What}
 use Rattle.aero_model.specs.declared.numbered.What.TheVariants.{End}
-use Rattle.aero_model.specs.Blocks.{is_begin, is_end, by_thread, depth, closes, blocks}
-use Rattle.aero_model.specs.Shape.{IsWellFormed, has_acted}
-use Rattle.aero_model.proofs.Stability.{Agree, agree_front, depth_same, blocks_same}
-use Rattle.aero_model.proofs.Depths.{step, AtOpening, AtClosing, AtOther, closing_at}
-use Rattle.aero_model.proofs.Ends.{is_by}
+use Rattle.aero_model.specs.Blocks.{depth, opens, closes, blocks}
+use Rattle.aero_model.specs.Shape.{IsWellFormed}
+use Rattle.aero_model.proofs.Stability.{Agree, agree_front, depth_same}
+use Rattle.aero_model.proofs.Depths.{closing_at}
 use Rattle.aero_model.proofs.Begins.{open_number}
 use Rattle.aero_engine.specs.declared.slot.Slot.{Slot}
 use Rattle.aero_engine.specs.declared.slot.Slot.TheVariants.{OfThread, LastWrite, LastRead, LastRelease}
 use Rattle.aero_engine.specs.Slots.{of_slot, last_event}
 use Rattle.aero_engine.specs.Clocks.{AreSound, MissNothing, IsBeginClock, end_clocks}
 use Rattle.aero_engine.specs.Judgement.{IsJudgedAtEnd, IsNamedAtEnd, IsUntold}
-use Rattle.aero_engine.specs.Events.{actor_at, thread_of, event}
-use Rattle.aero_engine.proofs.LastEvents.{is_last, last_kept}
-use Rattle.aero_engine.proofs.LongerTraces.{slice_get-push, last_event_same, begin_clock_same, sound_front, complete_front, sound_less, complete_greater}
+use Rattle.aero_engine.specs.Events.{actor_at, event}
+use Rattle.aero_engine.proofs.LongerTraces.{no_begin, begin_clock_same, sound_front, complete_front, sound_less, complete_greater}
+use Rattle.aero_engine.proofs.OneMore.{length_more, opens_by, closes_by, begins_more, inside_more, acted_more, actor_kept}
 use Rattle.aero_engine.proofs.Rules.{begin_clock_at_most}
 use Rattle.aero_engine.proofs.BeginClocks.{begin_clock_kept}
 use Rattle.aero_engine.proofs.Pushes.{told_push_end, untold_push_end}
@@ -43,9 +39,6 @@ module _ (c : Clocks) (before : List Numbered) (t : ℕ) (stands : StandsFor c b
 
   agree : Agree n before more
   agree = agree_front n before (e ∷ []) (le_refl n)
-
-  length_more : suc n ≡ length more
-  length_more = omega (arith, length-append before (e ∷ []))
 
   sound : AreSound more n (clock_of c)
   sound = sound_front before (e ∷ []) n (le_refl n) (clock_of c) stands.state.untold.sound
@@ -138,72 +131,36 @@ module _ (c : Clocks) (before : List Numbered) (t : ℕ) (stands : StandsFor c b
             none = u.none;
           }
 
-      -- of one thread
-      record Agrees (u : ℕ) : Type 0 where
-        begins : begins_at new u ≡ blocks more u (suc n)
-        in_block : in_block_at new u ≡ nat_lt 0 (depth more u (suc n))
-        begin_clock : in_block_at new u ≡ true → IsBeginClock more (suc n) u (begin_clock_of new u)
+      -- no block begins, and the thread's ends
+      begins_none : (u : ℕ) → opens more u n ≡ false
+      begins_none u = opens_by before e false (no_begin before t End refl) u ∙ and_right (t == u) false refl
 
-      same_begins : (u : ℕ) → begins_at new u ≡ blocks more u n
-      same_begins u = closed.begins u ∙ tests.begins u ∙ stands.state.begins u ∙ blocks_same n before more agree u n (le_refl n)
-
-      own : Agrees t
-      own =
-          let k = closing_at more t n closing in
-          let shut = closed.in_block t ∙ cond-true (t == t) _ _ (eq-eqb t t refl) in
-          record {
-            begins = same_begins t ∙ sym k.number;
-            in_block = shut ∙ sym (le-ltb 0 (depth more t (suc n)) (omega (arith, k.after)));
-            begin_clock = λ inside. absurd (both_ways (in_block_at new t) shut inside);
-          }
-
-      other : (u : ℕ) → t ≢ u → Agrees u
-      other u ne = go (step more u n)
+      ends_own : (u : ℕ) → closes more u n ≡ (t == u)
+      ends_own u = closes_by before e true closing u ∙ alone (t == u)
         where
-          not_by : (test : What → Bool) → by_thread u test (slice_get more n) ≡ true → ⊥
-          not_by test h =
-              let g = is_by u test (slice_get more n) h in
-              ne (ap (λ (a : Numbered). a.thread) (same_Some e g.event (sym (slice_get-push before e) ∙ g.at)) ∙ g.thread)
+          alone : (b : Bool) → (b && true) ≡ b
+          alone true = refl
+          alone false = refl
 
-          was : in_block_at new u ≡ in_block_at c u
-          was = closed.in_block u ∙ cond-false (t == u) _ _ (ne_eqb t u ne) ∙ tests.in_block u
+      begins_new : (u : ℕ) → begins_at new u ≡ blocks more u (suc n)
+      begins_new u = closed.begins u ∙ tests.begins u ∙ begins_more before e u (begins_at c u) false (begins_none u) (stands.state.begins u)
 
-          same_clock : (v : ℕ) → begin_clock_of new u v ≡ begin_clock_of c u v
-          same_clock v = closed.begin_clock u v ∙ cond-false (t == u) _ _ (ne_eqb t u ne) ∙ spread.begin_clock u v
+      inside_new : (u : ℕ) → in_block_at new u ≡ nat_lt 0 (depth more u (suc n))
+      inside_new u = closed.in_block u ∙ inside_more before e u (in_block_at now u) false (t == u) (begins_none u) (ends_own u) (tests.in_block u ∙ stands.state.in_block u)
 
-          inside_is : AtOther more u n → (b : Bool) → in_block_at c u ≡ b → b ≡ nat_lt 0 (depth more u (suc n))
-          inside_is s true h = let b = begun u h in sym (lt-ltb 0 (depth more u (suc n)) (s.inside b.is_open))
-          inside_is s false h =
-              let shallow : depth more u n ≡ 0 =
-              ⊎_elim (λ l. absurd (both_ways (in_block_at c u) h (is_inside u l))) (λ l. omega arith) (cases_lt 0 (depth more u n))
-              in
-              sym (le-ltb 0 (depth more u (suc n)) (omega (arith, s.outside shallow)))
-
-          go : AtOpening more u n ⊎ (AtClosing more u n ⊎ AtOther more u n) → Agrees u
-          go (inl s) = absurd (not_by is_begin (and_parts _ _ s.opens).0)
-          go (inr (inl s)) = absurd (not_by is_end (and_parts _ _ s.closes).0)
-          go (inr (inr s)) = record {
-            begins = same_begins u ∙ sym s.number;
-            in_block = was ∙ inside_is s (in_block_at c u) refl;
-            begin_clock = λ inside.
-                let b = begun u (sym was ∙ inside) in
-                begin_clock_eq more (suc n) u (begin_clock_of c u) (begin_clock_of new u) same_clock
-                (begin_clock_kept more n u (begin_clock_of c u) b (s.inside b.is_open));
-          }
-
-      agrees : (u : ℕ) → Agrees u
-      agrees u = ⊎_elim (λ h. subst Agrees h own) (other u) (cases_eq t u)
-
-      acted_new : (u : ℕ) → acted_at new u ≡ has_acted more u
-      acted_new u =
-          closed.acted u ∙ ap (λ b. if t == u then true else b) (tests.acted u ∙ stands.state.acted u) ∙ either_one (t == u) (has_acted before u)
-          ∙ sym (list_any-append (λ (f : Numbered). f.thread == u) before (e ∷ []))
+      begin_clock_new : (u : ℕ) → in_block_at new u ≡ true → IsBeginClock more (suc n) u (begin_clock_of new u)
+      begin_clock_new u inside = ⊎_elim own other (cases_eq t u)
         where
-          either_one : (b d : Bool) → (if b then true else d) ≡ (d || (b || false))
-          either_one true true = refl
-          either_one true false = refl
-          either_one false true = refl
-          either_one false false = refl
+          own : t ≡ u → IsBeginClock more (suc n) u (begin_clock_of new u)
+          own h = absurd (both_ways (in_block_at new u) (closed.in_block u ∙ cond-true (t == u) _ _ (eq-eqb t u h)) inside)
+
+          other : t ≢ u → IsBeginClock more (suc n) u (begin_clock_of new u)
+          other ne =
+              let apart = ne_eqb t u ne in
+              let was = begun u (sym (closed.in_block u ∙ cond-false (t == u) _ _ apart ∙ tests.in_block u) ∙ inside) in
+              begin_clock_eq more (suc n) u (begin_clock_of c u) (begin_clock_of new u)
+              (λ v. closed.begin_clock u v ∙ cond-false (t == u) _ _ apart ∙ spread.begin_clock u v)
+              (begin_clock_kept more n u (begin_clock_of c u) was (ltb-true 0 (depth more u (suc n)) (sym (inside_new u) ∙ inside)))
 
       -- an end is the last event of no slot but its thread's
       not_kept : (s : Slot) → is_kept s ≡ true → of_slot s e ≡ false
@@ -213,13 +170,7 @@ module _ (c : Clocks) (before : List Numbered) (t : ℕ) (stands : StandsFor c b
       not_kept (LastRelease l) kept = refl
 
       actor_new : (s : Slot) → is_kept s ≡ true → (state_of new).actor s ≡ actor_at more (last_event more (suc n) s)
-      actor_new s kept =
-          closed.actor s ∙ spread.actor s ∙ stands.state.actor s kept ∙ ap (actor_at before) (last_event_same n before more agree s) ∙ old_actor (last_event more n s) refl
-          ∙ sym (ap (actor_at more) (last_kept (of_slot s) more n e (slice_get-push before e) (not_kept s kept)))
-        where
-          old_actor : (o : Option ℕ) → last_event more n s ≡ o → actor_at before o ≡ actor_at more o
-          old_actor None last = refl
-          old_actor (Some q) last = ap thread_of (agree.same q (is_last (of_slot s) more n q last).below)
+      actor_new s kept = closed.actor s ∙ spread.actor s ∙ stands.state.actor s kept ∙ actor_kept before e s (not_kept s kept)
 
       -- where no block closes, nothing is told
       pub tells_none : Tells new more n None
@@ -230,11 +181,11 @@ module _ (c : Clocks) (before : List Numbered) (t : ℕ) (stands : StandsFor c b
           unclosed = closed.closed ∙ spread.closed;
           state = record {
             untold = untold;
-            actor = λ s kept. actor_new s kept ∙ ap (λ m. actor_at more (last_event more m s)) length_more;
-            acted = acted_new;
-            begins = λ u. (agrees u).begins ∙ ap (blocks more u) length_more;
-            in_block = λ u. (agrees u).in_block ∙ ap (λ m. nat_lt 0 (depth more u m)) length_more;
-            begin_clock = λ u inside. subst (λ m. IsBeginClock more m u (begin_clock_of new u)) length_more ((agrees u).begin_clock inside);
+            actor = λ s kept. actor_new s kept ∙ ap (λ m. actor_at more (last_event more m s)) (length_more before e);
+            acted = λ u. closed.acted u ∙ acted_more before e u (acted_at now u) (tests.acted u ∙ stands.state.acted u);
+            begins = λ u. begins_new u ∙ ap (blocks more u) (length_more before e);
+            in_block = λ u. inside_new u ∙ ap (λ m. nat_lt 0 (depth more u m)) (length_more before e);
+            begin_clock = λ u inside. subst (λ m. IsBeginClock more m u (begin_clock_of new u)) (length_more before e) (begin_clock_new u inside);
           };
         };
       }

@@ -56,7 +56,9 @@ pub fn end(clocks: &mut Clocks, t: u32) -> Result<Option<u32>, Spent>
     requires inside { in_block_at clocks.old t ≡ true }
     requires closed { closed_by clocks.old ≡ None }
     ensures answers { Answers clocks.old clocks.new result }
-    ensures follows { (h : List Numbered) → StandsFor clocks.old h → IsWellFormed (h ++ event t End ∷ []) → closes (h ++ event t End ∷ []) t (length h) ≡ true → IfOk result (Tells clocks.new (h ++ event t End ∷ []) (length h)) }
+    ensures follows { (h : List Numbered) → StandsFor clocks.old h →
+        IsWellFormed (h ++ event t End ∷ []) → closes (h ++ event t End ∷ []) t (length h) ≡ true →
+        IfOk result (Tells clocks.new (h ++ event t End ∷ []) (length h)) }
     ensures threads { threads_of clocks.new ≡ threads_of clocks.old }
 {
     let closing = spread(clocks, t)?;

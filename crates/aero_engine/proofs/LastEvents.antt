@@ -6,15 +6,12 @@ use Rattle.aero_model.specs.declared.numbered.Numbered.{Numbered}
 use Rattle.aero_model.specs.declared.numbered.What.{What}
 use Rattle.aero_model.specs.declared.numbered.What.TheVariants.{Read, Write, Release, Fork}
 use Rattle.aero_model.specs.Shape.{is_release_of, is_fork_of}
+use Rattle.aero_model.proofs.Conflicting.{fork_is}
 use Rattle.aero_model.proofs.Stability.{Agree, agree_less}
 use Rattle.aero_engine.specs.declared.slot.Slot.TheVariants.{OfThread, LastWrite, LastRead, LastRelease}
 use Rattle.aero_engine.specs.Slots.{is_read_of, is_write_of, of_slot, passes, last_of}
 
 -- what a test says of an event
-pub fork_is : (t : ℕ) (w : What) → is_fork_of t w ≡ true → w ≡ Fork t
-fork_is t (Fork u) h = ap Fork (sym (eqb-true t u h))
-fork_is t _ h = cc
-
 pub read_is : (x : ℕ) (w : What) → is_read_of x w ≡ true → w ≡ Read x
 read_is x (Read y) h = ap Read (sym (eqb-true x y h))
 read_is x _ h = cc

@@ -11,6 +11,7 @@ pub mod BeginClocks
 pub mod ThreadSlots
 pub mod KeptSlots
 pub mod LongerTraces
+pub mod OneMore
 pub mod Rules
 pub mod Pushes
 pub mod EveryRun

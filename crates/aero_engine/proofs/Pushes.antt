@@ -1,5 +1,5 @@
 -- One event put to the end of a trace.
-use Rattle.std.proofs.Common.{◌≡◌, ◌↔◌, ℕ, suc, List, [], ◌∷◌, ◌++◌, length, Option, None, refl, subst, le_refl, arith, length-append}
+use Rattle.std.proofs.Common.{◌≡◌, ◌↔◌, ℕ, suc, List, [], ◌∷◌, ◌++◌, length, Option, None, refl, subst, le_refl, arith}
 use Rattle.std.specs.Prelude.{true, false}
 use Rattle.aero_model.specs.declared.numbered.Numbered.{Numbered}
 use Rattle.aero_model.specs.Blocks.{closes}
@@ -11,6 +11,7 @@ use Rattle.aero_engine.specs.Takes.{Takes}
 use Rattle.aero_engine.specs.Clocks.{Clock, AreSound, MissNothing, greatest, new_clocks, end_clocks}
 use Rattle.aero_engine.specs.Judgement.{IsNamed, IsNamedAtEnd, IsTold, IsUntold}
 use Rattle.aero_engine.proofs.LongerTraces.{slice_get-push, sound_front, complete_front}
+use Rattle.aero_engine.proofs.OneMore.{length_more}
 use Rattle.aero_engine.proofs.Rules.{sound_event, complete_event, named_told, sound_end, complete_end, named_told_at_end}
 
 -- of no event
@@ -28,9 +29,6 @@ module _ (trace : List Numbered) (e : Numbered) (ok : IsWellFormed (trace ++ e �
   abbrev n : ℕ
   n = length trace
 
-  length_more : suc n ≡ length more
-  length_more = omega (arith, length-append trace (e ∷ []))
-
   sound : AreSound more n clocks
   sound = sound_front trace (e ∷ []) n (le_refl n) clocks untold.sound
 
@@ -42,9 +40,9 @@ module _ (trace : List Numbered) (e : Numbered) (ok : IsWellFormed (trace ++ e �
 
   kept : (after : Slot → Clock) → AreSound more (suc n) after → MissNothing more (suc n) after → ¬ HasTellingCycle more (suc n) → IsUntold more after
   kept after s x h = record {
-    sound = subst (λ m. AreSound more m after) length_more s;
-    complete = subst (λ m. MissNothing more m after) length_more x;
-    none = subst (λ m. ¬ HasTellingCycle more m) length_more h;
+    sound = subst (λ m. AreSound more m after) (length_more trace e) s;
+    complete = subst (λ m. MissNothing more m after) (length_more trace e) x;
+    none = subst (λ m. ¬ HasTellingCycle more m) (length_more trace e) h;
   }
 
   -- an event that is no outermost end

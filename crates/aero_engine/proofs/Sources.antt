@@ -1,6 +1,6 @@
 -- The last events of a few slots stand for all that conflicts with the event at place n.
 use Rattle.std.proofs.Common.{◌≡◌, ◌≢◌, ℕ, ◌<◌, ◌≤◌, ◌⊎◌, inl, inr, ⊎_elim, List, Some, refl, sym, ap, ◌∙◌, subst, arith}
-use Rattle.std.specs.Prelude.{true, slice_get, take}
+use Rattle.std.specs.Prelude.{◌==◌, true, slice_get, take}
 use Rattle.std.proofs.lemmas.Bool.{cases_lt, cases_eq, eqb-true, and_parts}
 use Rattle.std.proofs.lemmas.Option.{same_Some}
 use Rattle.aero_model.specs.declared.numbered.Numbered.{Numbered}
@@ -15,8 +15,8 @@ use Rattle.aero_model.proofs.Begins.{begin_of, last_in_open}
 use Rattle.aero_model.proofs.Ends.{begin_in}
 use Rattle.aero_engine.specs.declared.slot.Slot.{Slot}
 use Rattle.aero_engine.specs.declared.slot.Slot.TheVariants.{OfThread, LastWrite, LastRead, LastRelease}
-use Rattle.aero_engine.specs.Slots.{of_slot, last_event}
-use Rattle.aero_engine.specs.Takes.{HasActed}
+use Rattle.aero_engine.specs.Slots.{is_read_of, of_slot, last_event}
+use Rattle.aero_engine.specs.Takes.{takes_only_own, HasActed}
 use Rattle.aero_engine.proofs.LastEvents.{read_is, write_is, of_thread, to_thread, to_fork, to_write, to_read, to_release, is_last, last_covers}
 
 -- an event at a place reaches a later one that it conflicts with
@@ -106,6 +106,55 @@ pub data Source (trace : List Numbered) (n : ℕ) (e : Numbered) : Slot → Type
   write_after_read : (x u : ℕ) → e.what ≡ Write x → Source trace n e (LastRead x u)
   acquire : (l : ℕ) → e.what ≡ Acquire l → Source trace n e (LastRelease l)
   join : (u : ℕ) → e.what ≡ Join u → HasActed trace n u → Source trace n e (OfThread u)
+
+-- the read that is the last of variable x by thread u
+pub by_reader : (trace : List Numbered) (n x u q : ℕ) → last_event trace n (LastRead x u) ≡ Some q → (f : Numbered) × (q < n) × (slice_get trace q ≡ Some f) × (f.thread ≡ u) × (f.what ≡ Read x)
+by_reader trace n x u q last =
+    let g = is_last (of_slot (LastRead x u)) trace n q last in
+    let parts = and_parts (g.event.thread == u) (is_read_of x g.event.what) g.passed in
+    (g.event, g.below, g.event_at, eqb-true g.event.thread u parts.0, read_is x g.event.what parts.1)
+
+module _ (trace : List Numbered) (n : ℕ) (e : Numbered) where
+  -- what a source is, by what the event does
+  pub of_plain : (s : Slot) → takes_only_own e.what ≡ true → Source trace n e s → s ≡ OfThread e.thread
+  of_plain _ h own = refl
+  of_plain _ h (read x k) = let z = ap takes_only_own k in cc
+  of_plain _ h (write x k) = let z = ap takes_only_own k in cc
+  of_plain _ h (write_after_read x u k) = let z = ap takes_only_own k in cc
+  of_plain _ h (acquire l k) = let z = ap takes_only_own k in cc
+  of_plain _ h (join u k a) = let z = ap takes_only_own k in cc
+
+  pub of_read : (x : ℕ) (s : Slot) → e.what ≡ Read x → Source trace n e s → (s ≡ OfThread e.thread) ⊎ (s ≡ LastWrite x)
+  of_read x _ h own = inl refl
+  of_read x _ h (read y k) = inr cc
+  of_read x _ h (write y k) = cc
+  of_read x _ h (write_after_read y u k) = cc
+  of_read x _ h (acquire l k) = cc
+  of_read x _ h (join u k a) = cc
+
+  pub of_acquire : (l : ℕ) (s : Slot) → e.what ≡ Acquire l → Source trace n e s → (s ≡ OfThread e.thread) ⊎ (s ≡ LastRelease l)
+  of_acquire l _ h own = inl refl
+  of_acquire l _ h (read y k) = cc
+  of_acquire l _ h (write y k) = cc
+  of_acquire l _ h (write_after_read y u k) = cc
+  of_acquire l _ h (acquire m k) = inr cc
+  of_acquire l _ h (join u k a) = cc
+
+  pub of_join : (u : ℕ) (s : Slot) → e.what ≡ Join u → Source trace n e s → (s ≡ OfThread e.thread) ⊎ ((s ≡ OfThread u) × HasActed trace n u)
+  of_join u _ h own = inl refl
+  of_join u _ h (read y k) = cc
+  of_join u _ h (write y k) = cc
+  of_join u _ h (write_after_read y v k) = cc
+  of_join u _ h (acquire l k) = cc
+  of_join u _ h (join v k a) = let same : v ≡ u = cc in inr (ap OfThread same, subst (HasActed trace n) same a)
+
+  pub of_write : (x : ℕ) (s : Slot) → e.what ≡ Write x → Source trace n e s → (s ≡ OfThread e.thread) ⊎ ((s ≡ LastWrite x) ⊎ ((u : ℕ) × (s ≡ LastRead x u)))
+  of_write x _ h own = inl refl
+  of_write x _ h (read y k) = cc
+  of_write x _ h (write y k) = inr (inl cc)
+  of_write x _ h (write_after_read y u k) = inr (inr (u, cc))
+  of_write x _ h (acquire l k) = cc
+  of_write x _ h (join u k a) = cc
 
 module _ (trace : List Numbered) (ok : IsWellFormed trace) (n : ℕ) (e : Numbered) (at : slice_get trace n ≡ Some e) where
   conflict_with : (p : ℕ) (f : Numbered) → p < n → slice_get trace p ≡ Some f → Conflicts f e → Conflict trace p n

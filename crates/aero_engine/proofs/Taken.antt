@@ -1,11 +1,11 @@
 -- The slots that an event takes stand for all that conflicts with it.
-use Rattle.std.proofs.Common.{◌≡◌, ◌≢◌, ℕ, ◌<◌, ◌⊎◌, inl, inr, ⊎_elim, List, [], ◌∷◌, ◌++◌, Some, refl, sym, ap, ◌∙◌, subst, map}
-use Rattle.std.specs.Prelude.{◌==◌, true, slice_get, Contains}
-use Rattle.std.proofs.lemmas.Bool.{cases_eq, eqb-true, and_parts}
+use Rattle.std.proofs.Common.{◌≡◌, ◌≢◌, ℕ, ◌⊎◌, inl, inr, ⊎_elim, List, [], ◌∷◌, ◌++◌, Some, refl, sym, ap, ◌∙◌, subst, map}
+use Rattle.std.specs.Prelude.{slice_get, Contains}
+use Rattle.std.proofs.lemmas.Bool.{cases_eq}
 use Rattle.std.proofs.lemmas.List.Elements.{Contains-append_left, Contains-append_right, Contains-append_cases}
 use Rattle.std.proofs.lemmas.Option.{same_Some}
 use Rattle.aero_model.specs.declared.numbered.Numbered.{Numbered}
-use Rattle.aero_model.specs.declared.numbered.What.TheVariants.{Read, Write, Acquire, Join}
+use Rattle.aero_model.specs.declared.numbered.What.TheVariants.{Write, Join}
 use Rattle.aero_model.specs.Graph.{Conflict}
 use Rattle.aero_model.specs.Shape.{IsWellFormed}
 use Rattle.aero_model.proofs.Elements.{none_in, here, there, first_or_rest, Contains-map, Contains-map_from}
@@ -13,11 +13,11 @@ use Rattle.aero_model.proofs.Reach.{Reach, reach_trans}
 use Rattle.aero_model.proofs.WellFormed.{joins_other}
 use Rattle.aero_engine.specs.declared.slot.Slot.{Slot}
 use Rattle.aero_engine.specs.declared.slot.Slot.TheVariants.{OfThread, LastWrite, LastRead, LastRelease}
-use Rattle.aero_engine.specs.Slots.{is_read_of, of_slot, last_event}
-use Rattle.aero_engine.specs.Takes.{takes_only_own, HasActed, IfForeign, nobodys, its_own, foreign, AreReaders, Takes}
+use Rattle.aero_engine.specs.Slots.{of_slot, last_event}
+use Rattle.aero_engine.specs.Takes.{HasActed, IfForeign, nobodys, its_own, foreign, AreReaders, Takes}
 use Rattle.aero_engine.specs.Takes as takes
-use Rattle.aero_engine.proofs.LastEvents.{read_is, IsLast, is_last}
-use Rattle.aero_engine.proofs.Sources.{Source, own, read, write, write_after_read, acquire, join, source_conflicts, Covered, covered, latest, reach_latest}
+use Rattle.aero_engine.proofs.LastEvents.{IsLast, is_last}
+use Rattle.aero_engine.proofs.Sources.{Source, own, read, write, write_after_read, acquire, join, by_reader, of_plain, of_read, of_acquire, of_join, of_write, source_conflicts, Covered, covered, latest, reach_latest}
 
 -- the event at place q is of another thread than t
 pub record IsForeign (trace : List Numbered) (q t : ℕ) : Type 0 where
@@ -45,47 +45,6 @@ module _ (trace : List Numbered) (n : ℕ) (e : Numbered) where
 
   abbrev IsFair : Slot → Type 0
   IsFair s = Source trace n e s × ((s ≡ OfThread e.thread) ⊎ IsOthers s)
-
-  -- what a source is, by what the event does
-  of_plain : (s : Slot) → takes_only_own e.what ≡ true → Source trace n e s → s ≡ OfThread e.thread
-  of_plain _ h own = refl
-  of_plain _ h (read x k) = let z = ap takes_only_own k in cc
-  of_plain _ h (write x k) = let z = ap takes_only_own k in cc
-  of_plain _ h (write_after_read x u k) = let z = ap takes_only_own k in cc
-  of_plain _ h (acquire l k) = let z = ap takes_only_own k in cc
-  of_plain _ h (join u k a) = let z = ap takes_only_own k in cc
-
-  of_read : (x : ℕ) (s : Slot) → e.what ≡ Read x → Source trace n e s → (s ≡ OfThread e.thread) ⊎ (s ≡ LastWrite x)
-  of_read x _ h own = inl refl
-  of_read x _ h (read y k) = inr cc
-  of_read x _ h (write y k) = cc
-  of_read x _ h (write_after_read y u k) = cc
-  of_read x _ h (acquire l k) = cc
-  of_read x _ h (join u k a) = cc
-
-  of_acquire : (l : ℕ) (s : Slot) → e.what ≡ Acquire l → Source trace n e s → (s ≡ OfThread e.thread) ⊎ (s ≡ LastRelease l)
-  of_acquire l _ h own = inl refl
-  of_acquire l _ h (read y k) = cc
-  of_acquire l _ h (write y k) = cc
-  of_acquire l _ h (write_after_read y u k) = cc
-  of_acquire l _ h (acquire m k) = inr cc
-  of_acquire l _ h (join u k a) = cc
-
-  of_join : (u : ℕ) (s : Slot) → e.what ≡ Join u → Source trace n e s → (s ≡ OfThread e.thread) ⊎ ((s ≡ OfThread u) × HasActed trace n u)
-  of_join u _ h own = inl refl
-  of_join u _ h (read y k) = cc
-  of_join u _ h (write y k) = cc
-  of_join u _ h (write_after_read y v k) = cc
-  of_join u _ h (acquire l k) = cc
-  of_join u _ h (join v k a) = let same : v ≡ u = cc in inr (ap OfThread same, subst (HasActed trace n) same a)
-
-  of_write : (x : ℕ) (s : Slot) → e.what ≡ Write x → Source trace n e s → (s ≡ OfThread e.thread) ⊎ ((s ≡ LastWrite x) ⊎ ((u : ℕ) × (s ≡ LastRead x u)))
-  of_write x _ h own = inl refl
-  of_write x _ h (read y k) = cc
-  of_write x _ h (write y k) = inr (inl cc)
-  of_write x _ h (write_after_read y u k) = inr (inr (u, cc))
-  of_write x _ h (acquire l k) = cc
-  of_write x _ h (join u k a) = cc
 
   -- a slot that is taken where it is another thread's
   others_each : (s r : Slot) (ss : List Slot) → IfForeign trace n e.thread s ss → Contains ss r → (r ≡ s) × IsOthers s
@@ -155,22 +114,16 @@ module _ (trace : List Numbered) (ok : IsWellFormed trace) (n : ℕ) (e : Number
       foreign k.place k.event k.last k.event_at (λ same. joins_other trace ok n u e at h (sym k.thread ∙ same))
 
   module _ (x : ℕ) (ss : List Slot) (us : List ℕ) (h : e.what ≡ Write x) (iff : IfForeign trace n e.thread (LastWrite x) ss) (readers : AreReaders trace n e.thread x us) where
-    by_reader : (u q : ℕ) → last_event trace n (LastRead x u) ≡ Some q → (f : Numbered) × (q < n) × (slice_get trace q ≡ Some f) × (f.thread ≡ u) × (f.what ≡ Read x)
-    by_reader u q last =
-        let g = is_last (of_slot (LastRead x u)) trace n q last in
-        let parts = and_parts (g.event.thread == u) (is_read_of x g.event.what) g.passed in
-        (g.event, g.below, g.event_at, eqb-true g.event.thread u parts.0, read_is x g.event.what parts.1)
-
     fair_reader : (r : Slot) → Contains (map (LastRead x) us) r → IsFair trace n e r
     fair_reader r a =
         let m = Contains-map_from (LastRead x) us r a in
-        subst (IsFair trace n e) m.2 (write_after_read x m.0 h, inr (λ q last. let g = by_reader m.0 q last in record { event = g.0; event_at = g.2; other = λ k. readers.apart (subst (λ v. Contains us v) (sym g.3 ∙ k) m.1) }))
+        subst (IsFair trace n e) m.2 (write_after_read x m.0 h, inr (λ q last. let g = by_reader trace n x m.0 q last in record { event = g.0; event_at = g.2; other = λ k. readers.apart (subst (λ v. Contains us v) (sym g.3 ∙ k) m.1) }))
 
     all_readers : (r : Slot) (q : ℕ) → last_event trace n r ≡ Some q → IsForeign trace q e.thread → (r ≡ OfThread e.thread) ⊎ ((r ≡ LastWrite x) ⊎ ((u : ℕ) × (r ≡ LastRead x u))) → Contains (OfThread e.thread ∷ (ss ++ map (LastRead x) us)) r
     all_readers r q last f (inl k) = own_among r (ss ++ map (LastRead x) us) k
     all_readers r q last f (inr (inl k)) = there (OfThread e.thread) (ss ++ map (LastRead x) us) (Contains-append_left ss (map (LastRead x) us) r (subst (λ z. Contains ss z) (sym k) (others_all trace n e (LastWrite x) ss q iff (subst (λ z. last_event trace n z ≡ Some q) k last) f)))
     all_readers r q last f (inr (inr (u, k))) =
-        let g = by_reader u q (subst (λ z. last_event trace n z ≡ Some q) k last) in
+        let g = by_reader trace n x u q (subst (λ z. last_event trace n z ≡ Some q) k last) in
         let event = same_Some f.event g.0 (sym f.event_at ∙ g.2) in
         let reader = readers.all q g.0 g.1 g.2 g.4 (λ m. f.other (ap (λ (a : Numbered). a.thread) event ∙ m)) in
         there (OfThread e.thread) (ss ++ map (LastRead x) us) (Contains-append_right ss (map (LastRead x) us) r (subst (λ z. Contains (map (LastRead x) us) z) (sym k) (Contains-map (LastRead x) us u (subst (λ v. Contains us v) g.3 reader))))

@@ -6,10 +6,11 @@ use Rattle.std.proofs.lemmas.Bool.{eqb-true}
 use Rattle.aero_model.specs.declared.numbered.Numbered.{Numbered}
 use Rattle.aero_model.specs.declared.numbered.What.TheVariants.{Fork}
 use Rattle.aero_model.specs.Shape.{is_fork_of, IsWellFormed}
+use Rattle.aero_model.proofs.Conflicting.{fork_is}
 use Rattle.aero_model.proofs.WellFormed.{forked_before, forked_once}
 use Rattle.aero_engine.specs.declared.slot.Slot.TheVariants.{OfThread}
 use Rattle.aero_engine.specs.Slots.{of_slot, passes, last_of, last_event}
-use Rattle.aero_engine.proofs.LastEvents.{fork_is, of_thread, is_last}
+use Rattle.aero_engine.proofs.LastEvents.{of_thread, is_last}
 
 -- the tests of the two
 abbrev pub is_of : ℕ → Numbered → Bool

@@ -109,7 +109,8 @@ pub fn judge<E: ByKind>(
     admitted: Admitted,
 ) -> Result<Option<u32>, Spent>
     requires { IsAdmitted (E.stands_for engine.old) event.now admitted }
-    ensures { (h : List Numbered) (judged : Numbered) → IsJudgedAs event.now judged → ComesAfter (E.stands_for engine.old) h judged admitted →
+    ensures { (h : List Numbered) (judged : Numbered) → IsJudgedAs event.now judged →
+        ComesAfter (E.stands_for engine.old) h judged admitted →
         IfOk result (Tells (E.stands_for engine.new) (h ++ judged ∷ []) (length h)) }
 {
     let t = event.thread;
@@ -124,7 +125,8 @@ pub fn judge<E: ByKind>(
 // The same of an event that is no outermost begin or end, and no join of a thread that has not acted.
 fn act<E: ByKind>(engine: &mut E, t: u32, what: What) -> Result<Option<u32>, Spent>
     requires { IsToAct (E.stands_for engine.old) t what }
-    ensures { (h : List Numbered) (judged : What) → IsJudgedWhat what judged → ActsAfter (E.stands_for engine.old) h t judged →
+    ensures { (h : List Numbered) (judged : What) → IsJudgedWhat what judged →
+        ActsAfter (E.stands_for engine.old) h t judged →
         IfOk result (Tells (E.stands_for engine.new) (h ++ event t judged ∷ []) (length h)) }
 {
     match what {
@@ -141,7 +143,8 @@ fn act<E: ByKind>(engine: &mut E, t: u32, what: What) -> Result<Option<u32>, Spe
 // The same of a join of a thread that has not acted.
 fn join_idle<E: ByKind>(engine: &mut E, event: &Numbered) -> Result<Option<u32>, Spent>
     requires { IsAdmitted (E.stands_for engine.old) event.now IdleJoin }
-    ensures { (h : List Numbered) (judged : Numbered) → IsJudgedAs event.now judged → ComesAfter (E.stands_for engine.old) h judged IdleJoin →
+    ensures { (h : List Numbered) (judged : Numbered) → IsJudgedAs event.now judged →
+        ComesAfter (E.stands_for engine.old) h judged IdleJoin →
         IfOk result (Tells (E.stands_for engine.new) (h ++ judged ∷ []) (length h)) }
 {
     pass(engine, event.thread)
@@ -150,7 +153,8 @@ fn join_idle<E: ByKind>(engine: &mut E, event: &Numbered) -> Result<Option<u32>,
 // An event to which no block leads that does not lead to its thread, and so closes no cycle.
 fn pass<E: ByKind>(engine: &mut E, t: u32) -> Result<Option<u32>, Spent>
     requires { (E.view engine.old).closed ≡ None }
-    ensures { (h : List Numbered) (what : What) → E.stands_for engine.old h → IsWellFormed (h ++ event t what ∷ []) → IsIdle h t what →
+    ensures { (h : List Numbered) (what : What) → E.stands_for engine.old h →
+        IsWellFormed (h ++ event t what ∷ []) → IsIdle h t what →
         IfOk result (Tells (E.stands_for engine.new) (h ++ event t what ∷ []) (length h)) }
 {
     engine.plain(t)?;

@@ -51,7 +51,11 @@ pub trait Engine: Drop {
         label: Option<&[u8]>,
     ) -> Result<Option<u32>, Spent>
         requires { IsAdmitted (stands_for self.old) event.now admitted }
-        ensures told { (h : List Numbered) (judged : Numbered) → IsJudgedAs event.now judged → ComesAfter (stands_for self.old) h judged admitted →
+        ensures told { (h : List Numbered) (judged : Numbered) → IsJudgedAs event.now judged →
+            ComesAfter (stands_for self.old) h judged admitted →
             IfOk result (Tells (stands_for self.new) (h ++ judged ∷ []) (length h)) }
-        ensures kept { OnOk result ((given : List Given) (named : Option (List ℕ)) → IsLabelGiven ASKS_LABELS (option_copied label.entry) named → keeps self.old given → keeps self.new (given ++ record { line = line; event = event.now; admitted = admitted; label = named } ∷ [])) };
+        ensures kept { OnOk result ((given : List Given) (named : Option (List ℕ)) →
+            IsLabelGiven ASKS_LABELS (option_copied label.entry) named → keeps self.old given →
+            keeps self.new (given ++ record
+            { line = line; event = event.now; admitted = admitted; label = named } ∷ [])) };
 }

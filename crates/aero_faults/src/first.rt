@@ -46,8 +46,10 @@ pub fn first_after(
     line: u32,
     event: &Event,
 ) -> Result<Option<FirstDeed>, AllocError>
-    ensures { IfOk result (λ now. (before : List (ℕ × Named)) → IsFound (is_one_sought sought thread.now) thread.now before first
-        → IsFound (is_one_sought sought thread.now) thread.now (before ++ (line, event.now) ∷ []) now) }
+    ensures { IfOk result (λ now. (before : List (ℕ × Named)) →
+        IsFound (is_one_sought sought thread.now) thread.now before first
+        → IsFound (is_one_sought sought thread.now) thread.now (before ++ (line, event.now) ∷ [])
+        now) }
 {
     match first {
         Some(first) => Ok(Some(first)),
@@ -63,8 +65,10 @@ fn first_of(
     line: u32,
     event: &Event,
 ) -> Result<Option<FirstDeed>, AllocError>
-    ensures { IfOk result (λ now. (before : List (ℕ × Named)) → IsFound (is_one_sought sought thread.now) thread.now before None
-        → IsFound (is_one_sought sought thread.now) thread.now (before ++ (line, event.now) ∷ []) now) }
+    ensures { IfOk result (λ now. (before : List (ℕ × Named)) →
+        IsFound (is_one_sought sought thread.now) thread.now before None
+        → IsFound (is_one_sought sought thread.now) thread.now (before ++ (line, event.now) ∷ [])
+        now) }
 {
     if !is_sought(sought, thread, event) {
         return Ok(None);

@@ -43,7 +43,9 @@ impl Holder {
         line: u32,
         event: &Event,
     ) -> Result<Holder, AllocError>
-        ensures { IfOk result (λ holder. (before : List (ℕ × Named)) → IsHolder lock.now before self → IsHolder lock.now (before ++ (line, event.now) ∷ []) holder) }
+        ensures { IfOk result (λ holder. (before : List (ℕ × Named)) →
+            IsHolder lock.now before self →
+            IsHolder lock.now (before ++ (line, event.now) ∷ []) holder) }
     {
         if is_acquire_of(event, lock) {
             self.acquired(alloc, line, event.thread.bytes())

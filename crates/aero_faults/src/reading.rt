@@ -29,7 +29,8 @@ const PIECE: usize = 65_536;
 /// Those of the reader, one where memory is refused, and `InvalidData` where a line before it is too long.
 pub fn line_at<R: Read + Drop>(alloc: Global, reader: R, number: u32) -> io::Result<Option<Vec<u8>>>
     requires { 0 < number }
-    ensures { IfOk result (λ found. IfSome found (λ line. IsLine (R.remaining reader) number line.items)) }
+    ensures { IfOk result (λ found.
+        IfSome found (λ line. IsLine (R.remaining reader) number line.items)) }
 {
     let buffered = BufReader::with_capacity(alloc, PIECE, reader)?;
     let mut lines = Short::new(buffered);
@@ -41,7 +42,8 @@ pub fn line_at<R: Read + Drop>(alloc: Global, reader: R, number: u32) -> io::Res
 
 // Reads so many lines, each up to its byte 10; whether there are so many.
 fn pass_lines<B: BufRead>(alloc: Global, lines: &mut Short<B>, count: u32) -> io::Result<bool>
-    ensures { IfOk result (λ whole. whole ≡ true → AreWhole (B.remaining (within lines.old)) (B.remaining (within lines.new)) count) }
+    ensures { IfOk result (λ whole. whole ≡ true →
+        AreWhole (B.remaining (within lines.old)) (B.remaining (within lines.new)) count) }
 {
     let mut line = Vec::new(alloc);
     for _ in 0..count {
@@ -55,7 +57,9 @@ fn pass_lines<B: BufRead>(alloc: Global, lines: &mut Short<B>, count: u32) -> io
 // Reads a line up to its byte 10, without which it is kept; whether it has one. It fails at one that is too long.
 fn next_line<B: BufRead>(lines: &mut Short<B>, line: &mut Vec<u8>) -> io::Result<bool>
     ensures endless { IfOk result (λ whole. whole ≡ true → has_end line.new.items ≡ false) }
-    ensures came { IfOk result (λ whole. whole ≡ true → Consumes (B.remaining (within lines.old)) (B.remaining (within lines.new)) (ended line.new.items)) }
+    ensures came { IfOk result (λ whole. whole ≡ true →
+        Consumes (B.remaining (within lines.old)) (B.remaining (within lines.new))
+        (ended line.new.items)) }
 {
     line.clear();
     lines.start_line();
@@ -184,7 +188,9 @@ fn see_lines<B: BufRead>(
 ) -> io::Result<Option<Search>>
     requires { HasSeen first [] }
     ensures same { IfOk result (λ found. IfSome found (λ seen. IsSameSearch first seen)) }
-    ensures seen { IfOk result (λ found. IfSome found (AreSeen (B.remaining (within lines.old)) (B.remaining (within lines.new)) count)) }
+    ensures seen { IfOk result (λ found.
+        IfSome found (AreSeen (B.remaining (within lines.old)) (B.remaining (within lines.new))
+        count)) }
 {
     let mut line = Vec::new(alloc);
     let mut search = first;
@@ -208,7 +214,8 @@ fn see_line(
     search: Search,
 ) -> Result<Option<Search>, AllocError>
     ensures same { IfOk result (λ found. IfSome found (λ seen. IsSameSearch search seen)) }
-    ensures seen { IfOk result (λ found. IfSome found (λ seen. (before : List (ℕ × Named)) → HasSeen search before
+    ensures seen { IfOk result (λ found. IfSome found (λ seen. (before : List (ℕ × Named)) →
+        HasSeen search before
         → SeesLine seen before number (meaning line.now))) }
 {
     let said = match parse_line(alloc, line) {

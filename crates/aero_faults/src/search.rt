@@ -54,7 +54,8 @@ impl Search {
     ///
     /// `AllocError` where memory is refused, to a name of more than 16 bytes.
     pub fn see(self, alloc: Global, line: u32, event: &Event) -> Result<Search, AllocError>
-        ensures seen { IfOk result (λ search. (before : List (ℕ × Named)) → HasSeen self before → HasSeen search (before ++ (line, event.now) ∷ [])) }
+        ensures seen { IfOk result (λ search. (before : List (ℕ × Named)) → HasSeen self before →
+            HasSeen search (before ++ (line, event.now) ∷ [])) }
         ensures fault { IfOk result (λ search. search.fault ≡ self.fault) }
         ensures event { IfOk result (λ search. search.event ≡ self.event) }
     {
@@ -76,7 +77,8 @@ impl Search {
     pub fn finish(self) -> (Event, Option<Hindrance>)
         ensures event { result.0 ≡ self.event }
         ensures value { result.1 ≡ hindrance_in self.fault self.event self.seen }
-        ensures hinders { IfSome result.1 (λ hindrance. (before : List (ℕ × Named)) → HasSeen self before → Hinders before self.event self.fault hindrance) }
+        ensures hinders { IfSome result.1 (λ hindrance. (before : List (ℕ × Named)) →
+            HasSeen self before → Hinders before self.event self.fault hindrance) }
     {
         let Search { fault, event, seen } = self;
         let hindrance = seen.hindrance(fault, &event);
@@ -106,7 +108,8 @@ impl Seen {
         line: u32,
         event: &Event,
     ) -> Result<Seen, AllocError>
-        ensures { IfOk result (λ seen. (before : List (ℕ × Named)) → IsSeen sought.now before self → IsSeen sought.now (before ++ (line, event.now) ∷ []) seen) }
+        ensures { IfOk result (λ seen. (before : List (ℕ × Named)) → IsSeen sought.now before self →
+            IsSeen sought.now (before ++ (line, event.now) ∷ []) seen) }
     {
         let thread = sought.thread.bytes();
         match self {

@@ -51,7 +51,8 @@ impl<B: BufRead> Read for Short<B> {
 
     fn read(&mut self, buf: &mut [u8]) -> io::Result<usize>
         ensures bound { ReadsAtMost result buf.new }
-        ensures bytes { ReadConsumes (B.remaining (within self.old)) (B.remaining (within self.new)) result buf.new }
+        ensures bytes { ReadConsumes (B.remaining (within self.old)) (B.remaining (within self.new))
+            result buf.new }
     {
         self.inner.read(buf)
     }

@@ -4,9 +4,10 @@ ghost use Rattle.std.specs.Str.Lines.{strip_carriage_return};
 ghost use Rattle.aero_model.specs.Words.{line_words as line_words_of};
 ghost use Rattle.aero_faults.specs.Texts.{bad_place as bad_place_in, deed_text, hindrance_text, line_text, shown, verb as verb_of};
 
-use crate::fields::{bad_place, operation_word, without_return};
+use crate::fields::{bad_place, operation_word};
 use crate::hindrance::Hindrance;
 use crate::search::target_of;
+use aero_grammar::bytes::without_return;
 use aero_model::words::line_words;
 use aero_model::{Event, LineFault, Op, ShapeFault};
 use aero_report::shown::append_bytes;
@@ -35,7 +36,9 @@ pub fn append_line(text: &mut Vec<u8>, fault: LineFault, line: &[u8]) -> Result<
 
 // The place of the line's first control byte, and the line.
 fn append_place(text: &mut Vec<u8>, line: &[u8]) -> Result<(), AllocError>
-    ensures { OnOk result (text.new.items ≡ text.old.items ++ (codes "byte " ++ decimal (bad_place_in line.now) ++ (codes " is a control byte: " ++ shown line.now))) }
+    ensures { OnOk result (text.new.items ≡ text.old.items ++
+        (codes "byte " ++ decimal (bad_place_in line.now) ++
+        (codes " is a control byte: " ++ shown line.now))) }
 {
     append_number(text, b"byte ", bad_place(line))?;
     text.extend_from_slice(b" is a control byte: ")?;
@@ -45,7 +48,8 @@ fn append_place(text: &mut Vec<u8>, line: &[u8]) -> Result<(), AllocError>
 
 // The fault in words, and the bytes that have it.
 fn append_words(text: &mut Vec<u8>, fault: LineFault, bytes: &[u8]) -> Result<(), AllocError>
-    ensures { OnOk result (text.new.items ≡ text.old.items ++ (line_words_of fault ++ (codes ": " ++ shown bytes.now))) }
+    ensures { OnOk result (text.new.items ≡ text.old.items ++
+        (line_words_of fault ++ (codes ": " ++ shown bytes.now))) }
 {
     text.extend_from_slice(line_words(fault).as_bytes())?;
     text.extend_from_slice(b": ")?;
@@ -85,7 +89,8 @@ pub fn append_hindrance(
     event: &Event,
     hindrance: &Hindrance,
 ) -> Result<(), AllocError>
-    ensures { OnOk result (text.new.items ≡ text.old.items ++ hindrance_text fault event.now hindrance.now) }
+    ensures { OnOk result (text.new.items ≡ text.old.items ++
+        hindrance_text fault event.now hindrance.now) }
 {
     match hindrance {
         Hindrance::Held { thread, line } => append_held(text, event, thread.bytes(), *line),
@@ -110,7 +115,9 @@ fn append_held(
     thread: &[u8],
     line: u32,
 ) -> Result<(), AllocError>
-    ensures { OnOk result (text.new.items ≡ text.old.items ++ (deed_text event.now ++ (codes ", which " ++ (thread.now ++ (codes " holds since line " ++ decimal line))))) }
+    ensures { OnOk result (text.new.items ≡ text.old.items ++
+        (deed_text event.now ++ (codes ", which " ++
+        (thread.now ++ (codes " holds since line " ++ decimal line))))) }
 {
     append_deed(text, event)?;
     text.extend_from_slice(b", which ")?;
@@ -120,7 +127,8 @@ fn append_held(
 }
 
 fn append_free(text: &mut Vec<u8>, event: &Event) -> Result<(), AllocError>
-    ensures { OnOk result (text.new.items ≡ text.old.items ++ (deed_text event.now ++ codes ", which nobody holds")) }
+    ensures { OnOk result (text.new.items ≡ text.old.items ++
+        (deed_text event.now ++ codes ", which nobody holds")) }
 {
     append_deed(text, event)?;
     text.extend_from_slice(b", which nobody holds")?;
@@ -134,7 +142,8 @@ fn append_deed_on(
     words: &[u8],
     line: u32,
 ) -> Result<(), AllocError>
-    ensures { OnOk result (text.new.items ≡ text.old.items ++ (deed_text event.now ++ (words.now ++ decimal line))) }
+    ensures { OnOk result (text.new.items ≡ text.old.items ++
+        (deed_text event.now ++ (words.now ++ decimal line))) }
 {
     append_deed(text, event)?;
     append_at(text, words, line)
@@ -148,7 +157,8 @@ fn append_join(
     thread: &[u8],
     line: u32,
 ) -> Result<(), AllocError>
-    ensures { OnOk result (text.new.items ≡ text.old.items ++ hindrance_text fault event.now (Hindrance.Joined thread.now line)) }
+    ensures { OnOk result (text.new.items ≡ text.old.items ++
+        hindrance_text fault event.now (Hindrance.Joined thread.now line)) }
 {
     match fault {
         ShapeFault::ThreadJoined => append_joined(text, event, thread, line),
@@ -162,7 +172,9 @@ fn append_joined(
     thread: &[u8],
     line: u32,
 ) -> Result<(), AllocError>
-    ensures { OnOk result (text.new.items ≡ text.old.items ++ (event.now.thread ++ (codes " acts, but " ++ (thread.now ++ (codes " joined it on line " ++ decimal line))))) }
+    ensures { OnOk result (text.new.items ≡ text.old.items ++
+        (event.now.thread ++ (codes " acts, but " ++
+        (thread.now ++ (codes " joined it on line " ++ decimal line))))) }
 {
     text.extend_from_slice(event.thread.bytes())?;
     text.extend_from_slice(b" acts, but ")?;
@@ -172,7 +184,8 @@ fn append_joined(
 }
 
 fn append_itself(text: &mut Vec<u8>, event: &Event) -> Result<(), AllocError>
-    ensures { OnOk result (text.new.items ≡ text.old.items ++ (event.now.thread ++ (verb_of event.now.op ++ codes "itself"))) }
+    ensures { OnOk result (text.new.items ≡ text.old.items ++
+        (event.now.thread ++ (verb_of event.now.op ++ codes "itself"))) }
 {
     text.extend_from_slice(event.thread.bytes())?;
     text.extend_from_slice(verb(event.op).as_bytes())?;
@@ -180,7 +193,8 @@ fn append_itself(text: &mut Vec<u8>, event: &Event) -> Result<(), AllocError>
 }
 
 fn append_none_open(text: &mut Vec<u8>, event: &Event) -> Result<(), AllocError>
-    ensures { OnOk result (text.new.items ≡ text.old.items ++ (event.now.thread ++ codes " ends a block, but has no open block")) }
+    ensures { OnOk result (text.new.items ≡ text.old.items ++
+        (event.now.thread ++ codes " ends a block, but has no open block")) }
 {
     text.extend_from_slice(event.thread.bytes())?;
     text.extend_from_slice(b" ends a block, but has no open block")

@@ -1,29 +1,14 @@
 -- Where a text is cut, and what a text that ends a line leaves uncut.
-use Rattle.std.proofs.Common.{◌≡◌, ◌<◌, ◌+◌, ℕ, suc, Bool, true, false, List, [], ◌∷◌, ◌++◌, length, take, drop, get_or, refl, sym, ◌∙◌, ap, subst, true≢false, ◌⊎◌, inl, inr, arith, append_assoc, length-append}
-use Rattle.std.proofs.lemmas.Bool.{cases_Bool, or_from}
+use Rattle.std.proofs.Common.{◌≡◌, ℕ, suc, Bool, true, false, List, [], ◌∷◌, ◌++◌, length, take, drop, refl, sym, ◌∙◌, ap, subst, true≢false, ◌⊎◌, inl, inr, arith, append_assoc, length-append}
+use Rattle.std.proofs.lemmas.Bool.{cases_Bool}
 use Rattle.std.proofs.lemmas.List.{take-append-drop}
 use Rattle.std.specs.Prelude.{◌||◌}
 use Rattle.std.specs.List.{list_any}
 use Rattle.aero_model.specs.Lines.{is_line_end, EndsLine}
 use Rattle.aero_lines.specs.Cutting.{Cutting, has_too_long, fed}
 use Rattle.aero_lines.proofs.Steps.{HasNoEnd, step_shut, fed-at, step_held, step_cut}
+use Rattle.aero_lines.proofs.Runs.{Last, last_end}
 use Rattle.aero_feed.specs.Reads.{EndsIn}
-
--- a piece has no line's end, or a last one
-record Last (t : List ℕ) : Type 0 where
-  pub at : ℕ
-  pub within : at < length t
-  pub ends : is_line_end (get_or t at 0) ≡ true
-  pub behind : HasNoEnd (drop (suc at) t)
-
-last_end : (t : List ℕ) → HasNoEnd t ⊎ Last t
-last_end [] = inl refl
-last_end (b ∷ t) = go (cases_Bool (is_line_end b)) (last_end t)
-  where
-    go : (is_line_end b ≡ true) ⊎ (is_line_end b ≡ false) → HasNoEnd t ⊎ Last t → HasNoEnd (b ∷ t) ⊎ Last (b ∷ t)
-    go first (inr last) = let inside = last.within in inr (record { at = suc last.at; within = omega arith; ends = last.ends; behind = last.behind })
-    go (inl ends) (inl none) = inr (record { at = 0; within = omega arith; ends = ends; behind = none })
-    go (inr stays) (inl none) = inl (or_from (is_line_end b) (list_any is_line_end t) stays none)
 
 -- with one piece more the text ends in what isn't cut then
 pub ends_more : (text piece : List ℕ) (c : Cutting) → (c.shut ≡ false → EndsIn text c) → (fed c piece).shut ≡ false → EndsIn (text ++ piece) (fed c piece)

@@ -9,7 +9,8 @@ use Rattle.aero_grammar.proofs.Joined.{reading_of-cap, reading_of-concat}
 use Rattle.aero_lines.specs.Cutting.{nothing_yet, blocks_from}
 use Rattle.aero_lines.proofs.Runs.{blocks_are_the_text}
 use Rattle.aero_verdict.specs.Explained.{IsCycleOf}
-use Rattle.aero_verdict.specs.Verdict.{Rules, IsVerdict}
+use Rattle.aero_verdict.specs.Verdict.{IsVerdict}
+use Rattle.aero_model.specs.Terms.{Rules}
 use Rattle.aero_verdict.proofs.SameVerdict.{one_read, same_verdict, same_cycle}
 
 -- what the blocks say, one after the other, is what the text says

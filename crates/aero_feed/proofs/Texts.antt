@@ -1,5 +1,5 @@
 -- What is kept of a text that comes piece by piece.
-use Rattle.std.proofs.Common.{◌≡◌, ◌+◌, ℕ, suc, Bool, true, false, cond, List, [], ◌∷◌, ◌++◌, map, Option, Some, None, refl, sym, ◌∙◌, ap, subst, true≢false, ◌⊎◌, inl, inr, arith, append_assoc}
+use Rattle.std.proofs.Common.{◌≡◌, ℕ, suc, Bool, true, false, cond, List, [], ◌∷◌, ◌++◌, map, Option, Some, None, refl, sym, ◌∙◌, ap, subst, true≢false, ◌⊎◌, inl, inr, arith, append_assoc}
 use Rattle.std.proofs.lemmas.Bool.{cases_Bool, ltb-true}
 use Rattle.std.proofs.lemmas.List.{append-nil, map-append}
 use Rattle.std.specs.Prelude.{option_to_list, option_map, is_some, nat_lt, Result, Ok, Err, IfSome, IfOk, OnOk}
@@ -13,13 +13,15 @@ use Rattle.aero_model.specs.Lines.{EndsLine}
 use Rattle.aero_grammar.specs.Reading.{Reading, reading_of, whole_reading}
 use Rattle.aero_lines.specs.Cutting.{Cutting, nothing_yet, unless_empty, fed, block_of, last_block, blocks_from}
 use Rattle.aero_lines.proofs.Steps.{last_block-shut, last_block-at}
-use Rattle.aero_verdict.specs.Explained.{IsCycleOf, ShowsCertain}
-use Rattle.aero_verdict.specs.Fed.{Fed, IsCertain, IsOpen}
+use Rattle.aero_verdict.specs.Explained.{IsCycleOf, ShowsCertain, ShowsIfAsked}
+use Rattle.aero_verdict.specs.Fed.{IsCertain, IsOpen}
+use Rattle.aero_verdict.specs.Judging.{Judging, nothing_judged}
 use Rattle.aero_verdict.specs.Ordered.{is_faultless}
-use Rattle.aero_verdict.specs.Verdict.{Rules, IsVerdict}
+use Rattle.aero_verdict.specs.Verdict.{IsVerdict}
+use Rattle.aero_model.specs.Terms.{Rules, Terms}
 use Rattle.aero_verdict.proofs.OneVerdict.{one_verdict}
-use Rattle.aero_feed.specs.Feeding.{Feeding, nothing_fed, IsTextVerdict, IsCertainOf, IsOpenText, ShowsText}
-use Rattle.aero_feed.specs.Reads.{HasRead, GoesOn, IsSure, StandsAt, ShowsFed, IsJudgedOut}
+use Rattle.aero_feed.specs.Feeding.{IsTextVerdict, IsCertainOf, IsOpenText, ShowsText}
+use Rattle.aero_feed.specs.Reads.{HasRead, GoesOn, IsSure, StandsAt, IsJudgedOut}
 use Rattle.aero_feed.proofs.Ends.{ends_more, nothing_left}
 use Rattle.aero_feed.proofs.SameVerdict.{blocks_read, cycle_of_text, verdict_of_text, verdict_of_parts}
 
@@ -68,12 +70,12 @@ certain_text text c parts rules verdict is certain = record {
 }
 
 -- and what shows it of the parts shows it of the text
-pub sure_text : (text : List ℕ) (c : Cutting) (fed : Fed) (verdict : Verdict) → HasRead text c fed.parts → IsCertain fed.parts fed.rules verdict → IsSure text fed verdict
+pub sure_text : (text : List ℕ) (c : Cutting) (fed : Judging) (verdict : Verdict) → HasRead text c fed.parts → IsCertain fed.parts fed.terms.rules verdict → IsSure text fed verdict
 sure_text text c fed verdict is certain = record {
-  certain = certain_text text c fed.parts fed.rules verdict is certain;
+  certain = certain_text text c fed.parts fed.terms.rules verdict is certain;
   shown = λ rest cycle shows.
       let more = map reading_of (blocks_from c (rest ∷ [])) in
-      cycle_of_text fed.rules (fed.parts ++ more) (text ++ rest) verdict cycle (is.says (rest ∷ []) ∙ ap (λ t. reading_of (text ++ t)) (append-nil rest)) ((certain.explained more cycle).1 shows);
+      cycle_of_text fed.terms.rules (fed.parts ++ more) (text ++ rest) verdict cycle (is.says (rest ∷ []) ∙ ap (λ t. reading_of (text ++ t)) (append-nil rest)) ((certain.explained more cycle).1 shows);
 }
 
 -- and it stays so
@@ -84,10 +86,10 @@ certain_on text piece rules verdict is = record {
   wrong = is.wrong;
 }
 
-sure_on : (text piece : List ℕ) (fed : Fed) (verdict : Verdict) → IsSure text fed verdict → IsSure (text ++ piece) fed verdict
+sure_on : (text piece : List ℕ) (fed : Judging) (verdict : Verdict) → IsSure text fed verdict → IsSure (text ++ piece) fed verdict
 sure_on text piece fed verdict is = record {
-  certain = certain_on text piece fed.rules verdict is.certain;
-  shown = λ rest cycle shows. subst (λ t. IsCycleOf (reading_of t ∷ []) fed.rules verdict cycle) (sym (append_assoc text piece rest)) (is.shown (piece ++ rest) cycle shows);
+  certain = certain_on text piece fed.terms.rules verdict is.certain;
+  shown = λ rest cycle shows. subst (λ t. IsCycleOf (reading_of t ∷ []) fed.terms.rules verdict cycle) (sym (append_assoc text piece rest)) (is.shown (piece ++ rest) cycle shows);
 }
 
 -- where the text ends a line, and nothing is wrong with its parts, nothing is wrong with it
@@ -113,88 +115,71 @@ faultless_nothing rules (Malformed line fault) is =
     absurd (no_some (sym (ap (λ b. cond b (Some (suc rules.limits.lines, TooManyLines)) None) (none_too_many rules.limits.lines)) ∙ is.cause))
 faultless_nothing rules (IllFormed line fault) is = absurd (no_some is.line_of)
 
-pub none_certain : (rules : Rules) (certain : Option Verdict) → IfSome certain (IsCertain [] rules) → certain ≡ None
-none_certain rules None is = refl
-none_certain rules (Some verdict) is = absurd (true≢false (sym (faultless_nothing rules verdict (is.is_verdict [])) ∙ is.wrong))
-
-abbrev at : Rules → Bool → List ℕ → Option Verdict → Feeding
-at rules explains text certain = record { rules = rules; explains = explains; text = text; certain = certain; is_spent = false }
-
-pub certain_first : (fed : Fed) → fed.parts ≡ [] → IfSome fed.certain (IsCertain fed.parts fed.rules) → fed.certain ≡ None
-certain_first fed none certain = none_certain fed.rules fed.certain (subst (λ ps. IfSome fed.certain (IsCertain ps fed.rules)) none certain)
-
-pub seen_first : (fed : Fed) (explains : Bool) (text : List ℕ) → text ≡ [] → fed.certain ≡ None → at fed.rules explains text fed.certain ≡ nothing_fed fed.rules explains
-seen_first fed explains text none off = ap (λ t. at fed.rules explains t fed.certain) none ∙ ap (λ c. at fed.rules explains [] c) off
-
 -- before the first piece
-pub stands_first : (fed : Fed) → fed.parts ≡ [] → IfSome fed.certain (IsCertain fed.parts fed.rules) → StandsAt [] nothing_yet fed fed.certain
-stands_first fed none certain =
-    let start : HasRead [] nothing_yet fed.parts = subst (λ ps. HasRead [] nothing_yet ps) (sym none) read_nothing in
-    let right : IsOpen fed.parts fed.rules = subst (λ ps. IsOpen ps fed.rules) (sym none) (λ verdict is. inl (faultless_nothing fed.rules verdict is)) in
-    let off : fed.certain ≡ None = none_certain fed.rules fed.certain (subst (λ ps. IfSome fed.certain (IsCertain ps fed.rules)) none certain) in
-    subst (StandsAt [] nothing_yet fed) (sym off) (record { reads = start; right = right })
+pub stands_first : (terms : Terms) → StandsAt [] nothing_yet (nothing_judged terms) None
+stands_first terms = record { reads = read_nothing; right = λ verdict is. inl (faultless_nothing terms.rules verdict is) }
 
 -- with one piece more, where it was certain before
-pub stands_sure : (text piece : List ℕ) (cutting : Cutting) (fed : Fed) (certain : Option Verdict) → is_some certain ≡ true → StandsAt text cutting fed certain → StandsAt (text ++ piece) cutting fed certain
+pub stands_sure : (text piece : List ℕ) (cutting : Cutting) (fed : Judging) (certain : Option Verdict) → is_some certain ≡ true → StandsAt text cutting fed certain → StandsAt (text ++ piece) cutting fed certain
 stands_sure text piece cutting fed None sure is = absurd (true≢false (sym sure))
 stands_sure text piece cutting fed (Some verdict) sure is = sure_on text piece fed verdict is
 
 -- and where it wasn't
-pub stands_more : (text piece : List ℕ) (cutting : Cutting) (was is : Fed) (certain : Option Verdict) → was.certain ≡ None → StandsAt text cutting was was.certain →
-    is.rules ≡ was.rules → is.parts ≡ was.parts ++ map reading_of (option_to_list (block_of cutting piece)) →
-    IfSome is.certain (IsCertain is.parts is.rules) → (IsOpen was.parts was.rules → is.certain ≡ None → IsOpen is.parts is.rules) →
+pub stands_more : (text piece : List ℕ) (cutting : Cutting) (was is : Judging) (certain : Option Verdict) → was.certain ≡ None → StandsAt text cutting was was.certain →
+    is.terms ≡ was.terms → is.parts ≡ was.parts ++ map reading_of (option_to_list (block_of cutting piece)) →
+    IfSome is.certain (IsCertain is.parts is.terms.rules) → (IsOpen was.parts was.terms.rules → is.certain ≡ None → IsOpen is.parts is.terms.rules) →
     certain ≡ is.certain → StandsAt (text ++ piece) (fed cutting piece) is certain
 stands_more text piece cutting was is certain none stood rules parts sure right same =
     let before : GoesOn text cutting was = subst (StandsAt text cutting was) none stood in
     let reads : HasRead (text ++ piece) (fed cutting piece) is.parts = subst (HasRead (text ++ piece) (fed cutting piece)) (sym parts) (read_more text piece cutting was.parts before.reads) in
     subst (StandsAt (text ++ piece) (fed cutting piece) is) (sym same) (go is.certain sure (right before.right) reads)
   where
-    go : (c : Option Verdict) → IfSome c (IsCertain is.parts is.rules) → (c ≡ None → IsOpen is.parts is.rules) → HasRead (text ++ piece) (fed cutting piece) is.parts → StandsAt (text ++ piece) (fed cutting piece) is c
+    go : (c : Option Verdict) → IfSome c (IsCertain is.parts is.terms.rules) → (c ≡ None → IsOpen is.parts is.terms.rules) → HasRead (text ++ piece) (fed cutting piece) is.parts → StandsAt (text ++ piece) (fed cutting piece) is c
     go None sure right reads = record { reads = reads; right = right refl }
     go (Some verdict) sure right reads = sure_text (text ++ piece) (fed cutting piece) is verdict reads sure
 
 -- what is told of the text as it stands
-pub told_sure : (text : List ℕ) (cutting : Cutting) (fed : Fed) (certain : Option Verdict) → StandsAt text cutting fed certain → IfSome certain (IsCertainOf text fed.rules)
+pub told_sure : (text : List ℕ) (cutting : Cutting) (fed : Judging) (certain : Option Verdict) → StandsAt text cutting fed certain → IfSome certain (IsCertainOf text fed.terms.rules)
 told_sure text cutting fed None is = tt
 told_sure text cutting fed (Some verdict) is = is.certain
 
 -- and what shows it
-pub told_shown : (text : List ℕ) (cutting : Cutting) (fed : Fed) (explains : Bool) (cycle : Option Cycle) → StandsAt text cutting fed fed.certain → ShowsFed explains fed cycle → ShowsText explains fed.certain text fed.rules cycle
+pub told_shown : (text : List ℕ) (cutting : Cutting) (fed : Judging) (explains : Bool) (cycle : Option Cycle) → StandsAt text cutting fed fed.certain → ShowsIfAsked explains fed.certain fed.parts fed.terms.rules cycle → ShowsText explains fed.certain text fed.terms.rules cycle
 told_shown text cutting fed false cycle stood shows = shows
 told_shown text cutting fed true cycle stood shows = go fed.certain cycle stood shows
   where
-    go : (c : Option Verdict) (cycle : Option Cycle) → StandsAt text cutting fed c → ShowsCertain c fed.parts fed.rules cycle → ShowsText true c text fed.rules cycle
+    go : (c : Option Verdict) (cycle : Option Cycle) → StandsAt text cutting fed c → ShowsCertain c fed.parts fed.terms.rules cycle → ShowsText true c text fed.terms.rules cycle
     go None cycle stood shows = shows
     go (Some verdict) None stood shows = (shows.0, tt)
-    go (Some verdict) (Some cycle) stood shows = (shows.0, subst (λ t. IsCycleOf (reading_of t ∷ []) fed.rules verdict cycle) (append-nil text) (stood.shown [] cycle shows.1))
+    go (Some verdict) (Some cycle) stood shows = (shows.0, subst (λ t. IsCycleOf (reading_of t ∷ []) fed.terms.rules verdict cycle) (append-nil text) (stood.shown [] cycle shows.1))
 
-pub told_right : (text : List ℕ) (cutting : Cutting) (fed : Fed) (certain : Option Verdict) → StandsAt text cutting fed certain → is_some certain ≡ false → EndsLine text → IsOpenText text fed.rules
-told_right text cutting fed None is off ends = open_text text cutting fed.parts fed.rules is.reads is.right ends
+pub told_right : (text : List ℕ) (cutting : Cutting) (fed : Judging) (certain : Option Verdict) → StandsAt text cutting fed certain → is_some certain ≡ false → EndsLine text → IsOpenText text fed.terms.rules
+told_right text cutting fed None is off ends = open_text text cutting fed.parts fed.terms.rules is.reads is.right ends
 told_right text cutting fed (Some verdict) is off ends = absurd (true≢false off)
 
 -- the verdict in the end
-pub last_sure : (text : List ℕ) (cutting : Cutting) (fed : Fed) (verdict : Verdict) → is_some fed.certain ≡ true → StandsAt text cutting fed fed.certain →
-    IfSome fed.certain (IsCertain fed.parts fed.rules) → IsVerdict fed.parts fed.rules verdict → IsTextVerdict text fed.rules verdict
+pub last_sure : (text : List ℕ) (cutting : Cutting) (fed : Judging) (verdict : Verdict) → is_some fed.certain ≡ true → StandsAt text cutting fed fed.certain →
+    IfSome fed.certain (IsCertain fed.parts fed.terms.rules) → IsVerdict fed.parts fed.terms.rules verdict → IsTextVerdict text fed.terms.rules verdict
 last_sure text cutting fed verdict sure stood certain is = go fed.certain sure stood certain
   where
-    go : (c : Option Verdict) → is_some c ≡ true → StandsAt text cutting fed c → IfSome c (IsCertain fed.parts fed.rules) → IsTextVerdict text fed.rules verdict
+    go : (c : Option Verdict) → is_some c ≡ true → StandsAt text cutting fed c → IfSome c (IsCertain fed.parts fed.terms.rules) → IsTextVerdict text fed.terms.rules verdict
     go None sure stood certain = absurd (true≢false (sym sure))
     go (Some v) sure stood certain =
-        let all : IsVerdict fed.parts fed.rules v = subst (λ ps. IsVerdict ps fed.rules v) (append-nil fed.parts) (certain.is_verdict []) in
-        let same : v ≡ verdict = one_verdict fed.parts fed.rules v verdict all is in
-        subst (IsTextVerdict text fed.rules) same (subst (λ t. IsTextVerdict t fed.rules v) (append-nil text) (stood.certain.is_verdict []))
+        let all : IsVerdict fed.parts fed.terms.rules v = subst (λ ps. IsVerdict ps fed.terms.rules v) (append-nil fed.parts) (certain.is_verdict []) in
+        let same : v ≡ verdict = one_verdict fed.parts fed.terms.rules v verdict all is in
+        subst (IsTextVerdict text fed.terms.rules) same (subst (λ t. IsTextVerdict t fed.terms.rules v) (append-nil text) (stood.certain.is_verdict []))
 
-pub last_open : (text : List ℕ) (cutting : Cutting) (fed : Fed) (verdict : Verdict) → fed.certain ≡ None → StandsAt text cutting fed fed.certain →
-    IsVerdict (fed.parts ++ map reading_of (option_to_list (last_block cutting))) fed.rules verdict → IsTextVerdict text fed.rules verdict
+pub last_open : (text : List ℕ) (cutting : Cutting) (fed : Judging) (verdict : Verdict) → fed.certain ≡ None → StandsAt text cutting fed fed.certain →
+    IsVerdict (fed.parts ++ map reading_of (option_to_list (last_block cutting))) fed.terms.rules verdict → IsTextVerdict text fed.terms.rules verdict
 last_open text cutting fed verdict none stood is =
     let at : GoesOn text cutting fed = subst (StandsAt text cutting fed) none stood in
-    verdict_of_text fed.rules (fed.parts ++ map reading_of (option_to_list (last_block cutting))) text verdict (read_all text cutting fed.parts at.reads) is
+    verdict_of_text fed.terms.rules (fed.parts ++ map reading_of (option_to_list (last_block cutting))) text verdict (read_all text cutting fed.parts at.reads) is
 
 -- and however it was judged out
-pub judged_out : (text : List ℕ) (cutting : Cutting) (was now : Fed) (verdict : Verdict) → StandsAt text cutting was was.certain → IsJudgedOut was cutting now → IsVerdict now.parts now.rules verdict → IsTextVerdict text was.rules verdict
-judged_out text cutting was now verdict stood (inl (sure, certain, same)) is = last_sure text cutting was verdict sure stood certain (subst (λ (f : Fed). IsVerdict f.parts f.rules verdict) same is)
+pub judged_out : (text : List ℕ) (cutting : Cutting) (was now : Judging) (verdict : Verdict) → StandsAt text cutting was was.certain → IsJudgedOut was cutting now → IsVerdict now.parts now.terms.rules verdict → IsTextVerdict text was.terms.rules verdict
+judged_out text cutting was now verdict stood (inl (sure, certain, same)) is = last_sure text cutting was verdict sure stood certain (subst (λ (f : Judging). IsVerdict f.parts f.terms.rules verdict) same is)
 judged_out text cutting was now verdict stood (inr (none, parts, rules)) is =
-    last_open text cutting was verdict none stood (subst (λ ps. IsVerdict ps was.rules verdict) parts (subst (λ r. IsVerdict now.parts r verdict) rules is))
+    last_open text cutting was verdict none stood (subst (λ ps. IsVerdict ps was.terms.rules verdict) parts (subst (λ (t : Terms). IsVerdict now.parts t.rules verdict) rules is))
 
 -- what calls answer
 is_some_map : {A B : Type 0} (f : A → B) (o : Option A) → is_some (option_map f o) ≡ is_some o

@@ -1,5 +1,5 @@
 -- What a caller sees of a text that is fed piece by piece.
-use Rattle.std.specs.Prelude.{◌≡◌, ◌⊎◌, ◌+◌, ℕ, Bool, true, false, List, [], ◌∷◌, ◌++◌, Option, None, Some}
+use Rattle.std.specs.Prelude.{◌≡◌, ◌⊎◌, ◌+◌, ℕ, Bool, true, false, List, [], ◌∷◌, ◌++◌, Option, None, Some, Result, IfSome, OnErr, OnOk}
 use Rattle.aero_model.specs.declared.verdict.Cycle.{Cycle}
 use Rattle.aero_model.specs.declared.verdict.LineFault.TheVariants.{TooManyLines}
 use Rattle.aero_model.specs.declared.verdict.Verdict.{Verdict}
@@ -8,7 +8,8 @@ use Rattle.aero_model.specs.Verdicts.{HasOwnFault}
 use Rattle.aero_grammar.specs.Reading.{reading_of}
 use Rattle.aero_verdict.specs.Explained.{ShowsVerdict}
 use Rattle.aero_verdict.specs.Ordered.{is_faultless}
-use Rattle.aero_verdict.specs.Verdict.{Rules, IsVerdict}
+use Rattle.aero_verdict.specs.Verdict.{IsVerdict}
+use Rattle.aero_model.specs.Terms.{Rules}
 
 -- The rules, whether a violation is to be shown, the bytes that were fed, the verdict that is known to be certain, if one is, and whether memory was
 -- refused
@@ -22,6 +23,16 @@ pub record Feeding : Type 0 where
 -- nothing was fed
 abbrev pub nothing_fed : Rules → (explains : Bool) → Feeding
 nothing_fed rules explains = record { rules = rules; explains = explains; text = []; certain = None; is_spent = false }
+
+-- A call goes on with a feed: its rules stay the same, and whether it shows violations, and a verdict that was certain. The call is refused
+-- where memory is or was refused, and so is each later one.
+pub record FeedsOn {A E : Type 0} (old new : Feeding) (result : Result A E) : Type 0 where
+  pub rules : new.rules ≡ old.rules
+  pub explains : new.explains ≡ old.explains
+  pub stays : IfSome old.certain (λ verdict. new.certain ≡ old.certain)
+  pub spent : OnErr result (new.is_spent ≡ true)
+  pub was_unspent : OnOk result (old.is_spent ≡ false)
+  pub stays_spent : old.is_spent ≡ true → new.is_spent ≡ true
 
 -- the verdict on a text
 abbrev pub IsTextVerdict : List ℕ → Rules → Verdict → Type 0

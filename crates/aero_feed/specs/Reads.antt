@@ -5,12 +5,10 @@ use Rattle.aero_model.specs.declared.verdict.Cycle.{Cycle}
 use Rattle.aero_model.specs.declared.verdict.Verdict.{Verdict}
 use Rattle.aero_grammar.specs.Reading.{Reading, reading_of, whole_reading}
 use Rattle.aero_lines.specs.Cutting.{Cutting, IsOpenLine, blocks_from, last_block}
-use Rattle.aero_verdict.specs.Explained.{IsCycleOf, ShowsCertain}
-use Rattle.aero_verdict.specs.Fed.{Fed, IsCertain, IsOpen}
-use Rattle.aero_verdict.specs.Verdict.{Rules}
+use Rattle.aero_verdict.specs.Explained.{IsCycleOf}
+use Rattle.aero_verdict.specs.Fed.{IsCertain, IsOpen}
+use Rattle.aero_verdict.specs.Judging.{Judging}
 use Rattle.aero_feed.specs.Feeding.{IsCertainOf}
-use Rattle.aero_feed.specs.declared.any_monitor.AnyMonitor.{AnyMonitor}
-use Rattle.aero_feed.specs.declared.any_monitor.AnyMonitor.TheVariants.{Plain, Explaining}
 
 -- what isn't cut yet is the text's end, and has no byte 10
 pub record EndsIn (text : List ℕ) (cutting : Cutting) : Type 0 where
@@ -24,42 +22,22 @@ pub record HasRead (text : List ℕ) (cutting : Cutting) (parts : List Reading) 
   pub ends : cutting.shut ≡ false → EndsIn text cutting
 
 -- the text was read, and nothing is wrong with its whole lines
-pub record GoesOn (text : List ℕ) (cutting : Cutting) (fed : Fed) : Type 0 where
+pub record GoesOn (text : List ℕ) (cutting : Cutting) (fed : Judging) : Type 0 where
   pub reads : HasRead text cutting fed.parts
-  pub right : IsOpen fed.parts fed.rules
+  pub right : IsOpen fed.parts fed.terms.rules
 
 -- the verdict is certain of the text, and what shows it of the parts shows it of the text, whatever comes behind that
-pub record IsSure (text : List ℕ) (fed : Fed) (verdict : Verdict) : Type 0 where
-  pub certain : IsCertainOf text fed.rules verdict
-  pub shown : (rest : List ℕ) (cycle : Cycle) → IsCycleOf fed.parts fed.rules verdict cycle → IsCycleOf (reading_of (text ++ rest) ∷ []) fed.rules verdict cycle
+pub record IsSure (text : List ℕ) (fed : Judging) (verdict : Verdict) : Type 0 where
+  pub certain : IsCertainOf text fed.terms.rules verdict
+  pub shown : (rest : List ℕ) (cycle : Cycle) → IsCycleOf fed.parts fed.terms.rules verdict cycle → IsCycleOf (reading_of (text ++ rest) ∷ []) fed.terms.rules verdict cycle
 
 -- the verdict is certain, or the text goes on
-abbrev pub StandsAt : List ℕ → Cutting → Fed → Option Verdict → Type 0
+abbrev pub StandsAt : List ℕ → Cutting → Judging → Option Verdict → Type 0
 StandsAt text cutting fed None = GoesOn text cutting fed
 StandsAt text cutting fed (Some verdict) = IsSure text fed verdict
 
 -- What is judged in the end: nothing more where the verdict is certain, and else the last block.
-abbrev pub IsJudgedOut : Fed → Cutting → Fed → Type 0
+abbrev pub IsJudgedOut : Judging → Cutting → Judging → Type 0
 IsJudgedOut was cutting now =
-    ((is_some was.certain ≡ true) × IfSome was.certain (IsCertain was.parts was.rules) × (now ≡ was))
-    ⊎ ((was.certain ≡ None) × (now.parts ≡ was.parts ++ map reading_of (option_to_list (last_block cutting))) × (now.rules ≡ was.rules))
-
--- what a judge was fed, and whether it shows violations
-abbrev pub fed_by : AnyMonitor → Fed
-fed_by (Plain fed) = fed
-fed_by (Explaining fed) = fed.value
-
-abbrev pub explains_in : AnyMonitor → Bool
-explains_in (Plain fed) = false
-explains_in (Explaining fed) = true
-
--- it judges by these rules, shows violations or not, and was fed nothing
-pub record IsUnfed (rules : Rules) (explains : Bool) (judge : AnyMonitor) : Type 0 where
-  pub rules_are : (fed_by judge).rules ≡ rules
-  pub explained : explains_in judge ≡ explains
-  pub none : (fed_by judge).parts ≡ []
-
--- what shows the verdict that is certain, where violations are shown
-abbrev pub ShowsFed : (explains : Bool) → Fed → Option Cycle → Type 0
-ShowsFed true fed cycle = ShowsCertain fed.certain fed.parts fed.rules cycle
-ShowsFed false fed cycle = cycle ≡ None
+    ((is_some was.certain ≡ true) × IfSome was.certain (IsCertain was.parts was.terms.rules) × (now ≡ was))
+    ⊎ ((was.certain ≡ None) × (now.parts ≡ was.parts ++ map reading_of (option_to_list (last_block cutting))) × (now.terms ≡ was.terms))

@@ -1,14 +1,11 @@
 //! A text that comes in pieces.
-ghost use Rattle.std.specs.Prelude.{◌≡◌, ◌≤◌, ◌^◌, ◌++◌, [], true, false, None, length, is_some, IfOk, IfSome, OnOk, OnErr};
+ghost use Rattle.std.specs.Prelude.{◌≡◌, ◌≤◌, ◌^◌, ◌++◌, [], true, false, None, length, is_some, IfOk, IfSome, OnOk};
 ghost use Rattle.aero_model.specs.Lines.{EndsLine};
 ghost use Rattle.aero_model.specs.Verdicts.{HasOwnFault};
-ghost use Rattle.aero_verdict.specs.Verdict.{under};
-ghost use Rattle.aero_feed.specs.Feeding.{nothing_fed, IsTextVerdict, IsCertainOf, IsOpenText, ShowsText};
-ghost use Rattle.aero_feed.specs.Reads.{fed_by, explains_in};
+ghost use Rattle.aero_feed.specs.Feeding.{nothing_fed, FeedsOn, IsTextVerdict, IsCertainOf, IsOpenText, ShowsText};
 
-use crate::any_monitor::AnyMonitor;
 use crate::text_monitor::TextMonitor;
-use aero_model::{Cycle, Except, Limits, Verdict};
+use aero_model::{Cycle, Terms, Verdict};
 use std::alloc::{AllocError, Global};
 use std::marker::Model;
 
@@ -40,26 +37,20 @@ impl Model for Feed {
 }
 
 impl Feed {
-    /// A text of which no byte has come, under these limits. A block that begins with one of the labels of `except`
-    /// is no transaction.
-    pub fn new(alloc: Global, limits: &Limits, except: Except) -> Feed
-        ensures { result ≡ nothing_fed (under limits.now except) false }
-    {
-        let judge = AnyMonitor::plain(alloc, limits, &except);
-        judged_by(alloc, judge, except)
-    }
-
-    /// The same for a text whose violation `explain` shows. Until an event completes a telling cycle, the feed also keeps 28
-    /// bytes for each event that can be in such a cycle, and the labels of begins among them.
+    /// A text of which no byte has come, judged on these terms. If they ask for an explanation, `explain` shows a
+    /// violation. For that the feed also keeps 28 bytes for each event that can be in a telling cycle, and the labels of
+    /// begins among them, until an event completes one. The order that they may ask for isn't returned.
     ///
     /// # Errors
     ///
-    /// `AllocError` where memory was refused: there is no feed.
-    pub fn explaining(alloc: Global, limits: &Limits, except: Except) -> Result<Feed, AllocError>
-        ensures { IfOk result (λ feed. feed ≡ nothing_fed (under limits.now except) true) }
+    /// `AllocError` if memory was refused: there is no feed.
+    pub fn new(alloc: Global, terms: Terms) -> Result<Feed, AllocError>
+        ensures { IfOk result (λ feed. feed ≡ nothing_fed terms.rules terms.explain) }
     {
-        let judge = AnyMonitor::explaining(alloc, limits, &except)?;
-        Ok(judged_by(alloc, judge, except))
+        Ok(Feed {
+            monitor: TextMonitor::new(alloc, terms)?,
+            held: Vec::new(alloc),
+        })
     }
 
     /// Takes the next piece, of any length: lines may be cut anywhere.
@@ -69,12 +60,7 @@ impl Feed {
     /// `AllocError` where memory was refused, and at each call from then on.
     pub fn feed(&mut self, piece: &[u8]) -> Result<(), AllocError>
         ensures text { OnOk result (self.new.text ≡ self.old.text ++ piece.now) }
-        ensures rules { self.new.rules ≡ self.old.rules }
-        ensures explains { self.new.explains ≡ self.old.explains }
-        ensures stays { IfSome self.old.certain (λ verdict. self.new.certain ≡ self.old.certain) }
-        ensures spent { OnErr result (self.new.is_spent ≡ true) }
-        ensures was_unspent { OnOk result (self.old.is_spent ≡ false) }
-        ensures stays_spent { self.old.is_spent ≡ true → self.new.is_spent ≡ true }
+        ensures feeds_on { FeedsOn self.old self.new result }
     {
         let mut rest = piece;
         while rest.len() > HELD_BYTES {
@@ -94,39 +80,34 @@ impl Feed {
     /// `AllocError` where memory was refused, and at each call from then on.
     pub fn is_certain(&mut self) -> Result<bool, AllocError>
         ensures text { OnOk result (self.new.text ≡ self.old.text) }
-        ensures rules { self.new.rules ≡ self.old.rules }
-        ensures explains { self.new.explains ≡ self.old.explains }
+        ensures feeds_on { FeedsOn self.old self.new result }
         ensures told { IfOk result (λ is_certain. is_certain ≡ is_some self.new.certain) }
-        ensures certain { OnOk result (IfSome self.new.certain (IsCertainOf self.new.text self.new.rules)) }
-        ensures going_on { IfOk result (λ is_certain. is_certain ≡ false → EndsLine self.new.text → IsOpenText self.new.text self.new.rules) }
-        ensures stays { IfSome self.old.certain (λ verdict. self.new.certain ≡ self.old.certain) }
-        ensures spent { OnErr result (self.new.is_spent ≡ true) }
-        ensures was_unspent { OnOk result (self.old.is_spent ≡ false) }
-        ensures stays_spent { self.old.is_spent ≡ true → self.new.is_spent ≡ true }
+        ensures certain { OnOk result (IfSome self.new.certain
+            (IsCertainOf self.new.text self.new.rules)) }
+        ensures going_on { IfOk result (λ is_certain. is_certain ≡ false → EndsLine self.new.text →
+            IsOpenText self.new.text self.new.rules) }
     {
         judge_held(&mut self.monitor, &mut self.held)?;
         Ok(self.monitor.is_certain())
     }
 
     /// Judges what came so far, as `is_certain` does, and gives what shows the verdict if it is a violation and certain: the
-    /// label of the block that it names, and the events of a telling cycle, as `check_trace_explained` of aero_verdict
-    /// tells them. `None` where no violation is certain, or the feed isn't `explaining`. Once one is certain, each call takes as
-    /// long as there are events up to it.
+    /// label of the block that it names, and the events of a telling cycle, as `judge_trace` of aero_verdict finds them.
+    /// `None` if no violation is certain, or if the terms ask for no explanation. Once one is certain, each call takes as long
+    /// as there are events up to it.
     ///
     /// # Errors
     ///
     /// `AllocError` where memory was refused, and at each call from then on.
     pub fn explain(&mut self) -> Result<Option<Cycle>, AllocError>
         ensures text { OnOk result (self.new.text ≡ self.old.text) }
-        ensures rules { self.new.rules ≡ self.old.rules }
-        ensures explains { self.new.explains ≡ self.old.explains }
-        ensures shown { IfOk result (ShowsText self.new.explains self.new.certain self.new.text self.new.rules) }
-        ensures certain { OnOk result (IfSome self.new.certain (IsCertainOf self.new.text self.new.rules)) }
-        ensures going_on { OnOk result (self.new.certain ≡ None → EndsLine self.new.text → IsOpenText self.new.text self.new.rules) }
-        ensures stays { IfSome self.old.certain (λ verdict. self.new.certain ≡ self.old.certain) }
-        ensures spent { OnErr result (self.new.is_spent ≡ true) }
-        ensures was_unspent { OnOk result (self.old.is_spent ≡ false) }
-        ensures stays_spent { self.old.is_spent ≡ true → self.new.is_spent ≡ true }
+        ensures feeds_on { FeedsOn self.old self.new result }
+        ensures shown { IfOk result (ShowsText self.new.explains self.new.certain self.new.text
+            self.new.rules) }
+        ensures certain { OnOk result (IfSome self.new.certain
+            (IsCertainOf self.new.text self.new.rules)) }
+        ensures going_on { OnOk result (self.new.certain ≡ None → EndsLine self.new.text →
+            IsOpenText self.new.text self.new.rules) }
     {
         judge_held(&mut self.monitor, &mut self.held)?;
         // (tells the proof what is certain)
@@ -166,12 +147,7 @@ impl Feed {
     fn hold(&mut self, piece: &[u8]) -> Result<(), AllocError>
         requires { length piece.now ≤ 2 ^ 16 }
         ensures text { OnOk result (self.new.text ≡ self.old.text ++ piece.now) }
-        ensures rules { self.new.rules ≡ self.old.rules }
-        ensures explains { self.new.explains ≡ self.old.explains }
-        ensures stays { IfSome self.old.certain (λ verdict. self.new.certain ≡ self.old.certain) }
-        ensures spent { OnErr result (self.new.is_spent ≡ true) }
-        ensures was_unspent { OnOk result (self.old.is_spent ≡ false) }
-        ensures stays_spent { self.old.is_spent ≡ true → self.new.is_spent ≡ true }
+        ensures feeds_on { FeedsOn self.old self.new result }
     {
         if self.monitor.is_spent() {
             return Err(AllocError);
@@ -187,31 +163,15 @@ impl Feed {
     }
 }
 
-// A text of which no byte has come, and a judge of it, which goes by these labels and was fed nothing.
-fn judged_by(alloc: Global, judge: AnyMonitor, except: Except) -> Feed
-    requires labels { except ≡ (fed_by judge).rules.labels }
-    requires none { (fed_by judge).parts ≡ [] }
-    ensures { result ≡ nothing_fed (fed_by judge).rules (explains_in judge) }
-{
-    Feed {
-        monitor: TextMonitor::new(alloc, judge, except),
-        held: Vec::new(alloc),
-    }
-}
-
 // Judges what is held, and lets it go.
 fn judge_held(monitor: &mut TextMonitor, held: &mut Vec<u8>) -> Result<(), AllocError>
     requires { length held.old.items ≤ 2 ^ 17 }
-    ensures text { OnOk result (monitor.new.text ++ held.new.items ≡ monitor.old.text ++ held.old.items) }
+    ensures text { OnOk result (monitor.new.text ++ held.new.items ≡ monitor.old.text ++
+        held.old.items) }
     ensures none { OnOk result (held.new.items ≡ []) }
     ensures short { length held.new.items ≤ length held.old.items }
-    ensures rules { monitor.new.rules ≡ monitor.old.rules }
-    ensures explains { monitor.new.explains ≡ monitor.old.explains }
-    ensures stays { IfSome monitor.old.certain (λ verdict. monitor.new.certain ≡ monitor.old.certain) }
-    ensures spent { OnErr result (monitor.new.is_spent ≡ true) }
+    ensures feeds_on { FeedsOn monitor.old monitor.new result }
     ensures unspent { OnOk result (monitor.new.is_spent ≡ false) }
-    ensures was_unspent { OnOk result (monitor.old.is_spent ≡ false) }
-    ensures stays_spent { monitor.old.is_spent ≡ true → monitor.new.is_spent ≡ true }
 {
     monitor.take(held.as_slice())?;
     held.clear();

@@ -4,7 +4,8 @@
 //! whatever comes, and at the end gives the verdict on exactly the bytes that were fed.
 //!
 //! ```text
-//! let mut feed = Feed::new(alloc, &Limits::greatest(), Except::new(Vec::new(alloc)).ok_or("labels")?);
+//! let none = SharedExcept::new(alloc, Except::new(Vec::new(alloc)).ok_or("labels")?)?;
+//! let mut feed = Feed::new(alloc, Terms::new(Limits::greatest(), none, false, false))?;
 //! feed.feed(b"T1|begin\nT1|w(x)\nT2|beg")?;
 //! feed.feed(b"in\nT2|r(x)\nT2|w(y)\n")?;
 //! feed.is_certain()?;      // false
@@ -13,10 +14,10 @@
 //! feed.finish()?;          // Violation { line: 6, thread: T1, begun: 1 }
 //! ```
 //!
-//! A feed that is `explaining` also shows a violation, as soon as that is certain:
+//! If the terms ask for an explanation, a feed also shows a violation, as soon as that is certain:
 //!
 //! ```text
-//! let mut feed = Feed::explaining(alloc, &Limits::greatest(), Except::new(Vec::new(alloc)).ok_or("labels")?)?;
+//! let mut feed = Feed::new(alloc, Terms::new(Limits::greatest(), none, false, true))?;
 //! feed.feed(b"T1|begin(a)\nT1|r(x)\nT2|w(x)\nT1|w(x)\n")?;
 //! feed.explain()?;         // the label a, and the events on the lines 2, 3 and 4
 //! ```
@@ -24,17 +25,16 @@
 //! # What is proved
 //!
 //! - A feed has exactly the bytes that it was fed, under the rules that it began with: `Feed::new`; `feed`, `text`,
-//!   `rules`.
+//!   `feeds_on`.
 //! - It is told that the verdict is certain only where it is, whatever bytes come, and stays so: `Feed::is_certain`,
-//!   `certain`, `stays`. Where the bytes end a line and it isn't told, nothing is wrong with them, but maybe that there
+//!   `certain`, `feeds_on`. Where the bytes end a line and it isn't told, nothing is wrong with them, but maybe that there
 //!   is one line too many: `going_on`.
-//! - Once memory was refused no call returns anything else: `spent`, `stays_spent`, `was_unspent` of each.
-//! - What shows a violation that is certain is a shortest telling cycle of the text, as `check_trace_explained` tells it; of a
-//!   feed that isn't `explaining` nothing is shown: `Feed::explain`, `shown`.
+//! - Once memory was refused no call returns anything else: `feeds_on` of each (`spent`, `stays_spent`, `was_unspent`).
+//! - What shows a violation that is certain is a shortest telling cycle of the text, as `judge_trace` finds it. If the terms
+//!   ask for no explanation nothing is shown: `Feed::explain`, `shown`.
 //! - The verdict is that of the text, as one part: `Feed::finish`. So it is what `check_trace` returns of it.
 #![tactic(auto)]
 
-mod any_monitor;
 pub mod feed;
 mod ghost_text;
 mod text_monitor;

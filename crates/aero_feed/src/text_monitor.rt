@@ -1,18 +1,19 @@
 //! A text that is judged piece by piece, as soon as a line is whole.
-ghost use Rattle.std.specs.Prelude.{◌≡◌, ◌≤◌, ◌^◌, ◌++◌, ◌∷◌, [], true, false, None, length, map, is_some, option_to_list, IfOk, IfSome, OnOk, OnErr};
+ghost use Rattle.std.specs.Prelude.{◌≡◌, ◌≤◌, ◌^◌, ◌++◌, ◌∷◌, [], true, false, None, length, map, is_some, option_to_list, IfOk, IfSome, OnOk};
 ghost use Rattle.aero_model.specs.Lines.{EndsLine};
 ghost use Rattle.aero_model.specs.Verdicts.{HasOwnFault};
 ghost use Rattle.aero_grammar.specs.Reading.{reading_of};
 ghost use Rattle.aero_lines.specs.Cutting.{fed, block_of, last_block};
 ghost use Rattle.aero_verdict.specs.Fed.{IsCertain, IsOpen};
-ghost use Rattle.aero_feed.specs.Feeding.{nothing_fed, IsTextVerdict, IsCertainOf, IsOpenText, ShowsText};
-ghost use Rattle.aero_feed.specs.Reads.{fed_by, explains_in, IsJudgedOut};
+ghost use Rattle.aero_verdict.specs.Judging.{judging_of};
+ghost use Rattle.aero_feed.specs.Feeding.{nothing_fed, FeedsOn, IsTextVerdict, IsCertainOf, IsOpenText, ShowsText};
+ghost use Rattle.aero_feed.specs.Reads.{IsJudgedOut};
 
-use crate::any_monitor::AnyMonitor;
 use crate::ghost_text::GhostText;
 use aero_grammar::parse_block;
 use aero_lines::Cutter;
-use aero_model::{Cycle, Except, Verdict};
+use aero_model::{Cycle, Except, Terms, Verdict};
+use aero_verdict::Judge;
 use std::alloc::{AllocError, Global};
 use std::marker::Model;
 
@@ -20,9 +21,9 @@ use std::marker::Model;
 #[derive(Drop)]
 pub(crate) struct TextMonitor {
     alloc: Global,
-    except: Except,
+    terms: Terms,
     cutter: Cutter,
-    judge: AnyMonitor,
+    judge: Box<Judge, Global>,
     is_spent: bool,
     text: GhostText,
 }
@@ -33,39 +34,37 @@ impl Model for TextMonitor {
     ghost Value = { Feeding };
 
     ghost use Rattle.std.specs.Prelude.{◌≡◌, false};
-    ghost use Rattle.aero_feed.specs.Reads.{StandsAt, fed_by, explains_in};
+    ghost use Rattle.aero_feed.specs.Reads.{StandsAt};
+    ghost use Rattle.aero_verdict.specs.Judging.{judging_of};
 
     ghost view = { λ t. record {
-      rules = (fed_by t.judge).rules;
-      explains = explains_in t.judge;
+      rules = (judging_of t.judge.value).terms.rules;
+      explains = (judging_of t.judge.value).terms.explain;
       text = t.text.bytes;
-      certain = (fed_by t.judge).certain;
+      certain = (judging_of t.judge.value).certain;
       is_spent = t.is_spent;
     } };
 
     ghost invariant = { λ t. record {
-      labels : t.except ≡ (fed_by t.judge).rules.labels;
-      stands : t.is_spent ≡ false → StandsAt t.text.bytes t.cutter (fed_by t.judge) (fed_by t.judge).certain;
+      labels : t.terms.rules.labels ≡ (judging_of t.judge.value).terms.rules.labels;
+      stands : t.is_spent ≡ false → StandsAt t.text.bytes t.cutter (judging_of t.judge.value) (judging_of t.judge.value).certain;
     } };
 }
 
 impl TextMonitor {
-    // No byte has come, and the judge, which goes by these labels, was fed nothing.
-    pub(crate) fn new(alloc: Global, judge: AnyMonitor, except: Except) -> TextMonitor
-        requires labels { except ≡ (fed_by judge).rules.labels }
-        requires none { (fed_by judge).parts ≡ [] }
-        ensures { result ≡ nothing_fed (fed_by judge).rules (explains_in judge) }
+    // No byte has come. The text is judged on these terms. An `AllocError` says that memory was refused.
+    pub(crate) fn new(alloc: Global, terms: Terms) -> Result<TextMonitor, AllocError>
+        ensures { IfOk result (λ monitor. monitor ≡ nothing_fed terms.rules terms.explain) }
     {
-        // (tells the proof that nothing is certain yet)
-        let _is_certain = judge.is_certain();
-        TextMonitor {
+        let judge = Box::new(alloc, Judge::new(alloc, &terms))?;
+        Ok(TextMonitor {
             alloc,
             cutter: Cutter::new(alloc),
             judge,
-            except,
+            terms,
             is_spent: false,
             text: GhostText::none(),
-        }
+        })
     }
 
     // Judges the next piece, up to the last line that is whole now. An `AllocError` says that memory was refused, and
@@ -73,13 +72,8 @@ impl TextMonitor {
     pub(crate) fn take(&mut self, piece: &[u8]) -> Result<(), AllocError>
         requires { length piece.now ≤ 2 ^ 20 }
         ensures text { self.new.text ≡ self.old.text ++ piece.now }
-        ensures rules { self.new.rules ≡ self.old.rules }
-        ensures explains { self.new.explains ≡ self.old.explains }
-        ensures stays { IfSome self.old.certain (λ verdict. self.new.certain ≡ self.old.certain) }
-        ensures spent { OnErr result (self.new.is_spent ≡ true) }
+        ensures feeds_on { FeedsOn self.old self.new result }
         ensures unspent { OnOk result (self.new.is_spent ≡ false) }
-        ensures was_unspent { OnOk result (self.old.is_spent ≡ false) }
-        ensures stays_spent { self.old.is_spent ≡ true → self.new.is_spent ≡ true }
     {
         self.text = GhostText::with(&self.text, piece);
         if self.is_spent {
@@ -92,7 +86,7 @@ impl TextMonitor {
             self.alloc,
             &mut self.cutter,
             &mut self.judge,
-            &self.except,
+            self.terms.except(),
             piece,
         );
         self.is_spent = judged.is_err();
@@ -102,15 +96,18 @@ impl TextMonitor {
     // Whether the verdict is certain, whatever comes.
     pub(crate) fn is_certain(&self) -> bool
         ensures told { result ≡ is_some self.now.certain }
-        ensures certain { self.now.is_spent ≡ false → IfSome self.now.certain (IsCertainOf self.now.text self.now.rules) }
-        ensures going_on { self.now.is_spent ≡ false → result ≡ false → EndsLine self.now.text → IsOpenText self.now.text self.now.rules }
+        ensures certain { self.now.is_spent ≡ false →
+            IfSome self.now.certain (IsCertainOf self.now.text self.now.rules) }
+        ensures going_on { self.now.is_spent ≡ false → result ≡ false → EndsLine self.now.text →
+            IsOpenText self.now.text self.now.rules }
     {
         self.judge.is_certain()
     }
 
     // What shows the violation that is certain, where one is and is to be shown. An `AllocError` says that memory was refused.
     pub(crate) fn explain(&self) -> Result<Option<Cycle>, AllocError>
-        ensures { self.now.is_spent ≡ false → IfOk result (ShowsText self.now.explains self.now.certain self.now.text self.now.rules) }
+        ensures { self.now.is_spent ≡ false →
+            IfOk result (ShowsText self.now.explains self.now.certain self.now.text self.now.rules) }
     {
         self.judge.explain()
     }
@@ -137,15 +134,15 @@ impl TextMonitor {
     {
         let TextMonitor {
             alloc,
-            except,
+            terms,
             cutter,
             judge,
             is_spent,
             text: _,
         } = self;
-        let mut judge = judge;
-        let judged = judge_rest(alloc, cutter, &mut judge, &except, is_spent);
-        let verdict = judge.finish();
+        let mut judge = Box::into_inner(judge);
+        let judged = judge_rest(alloc, cutter, &mut judge, terms.except(), is_spent);
+        let verdict = judge.verdict();
         judged?;
         verdict
     }
@@ -156,12 +153,12 @@ impl TextMonitor {
 fn judge_rest(
     alloc: Global,
     cutter: Cutter,
-    judge: &mut AnyMonitor,
+    judge: &mut Judge,
     except: &Except,
     is_spent: bool,
 ) -> Result<(), AllocError>
-    requires labels { except.now ≡ (fed_by judge.old).rules.labels }
-    ensures judged { OnOk result (IsJudgedOut (fed_by judge.old) cutter (fed_by judge.new)) }
+    requires labels { except.now ≡ (judging_of judge.old).terms.rules.labels }
+    ensures judged { OnOk result (IsJudgedOut (judging_of judge.old) cutter (judging_of judge.new)) }
     ensures was_unspent { OnOk result (is_spent ≡ false) }
 {
     if is_spent {
@@ -177,19 +174,23 @@ fn judge_rest(
 fn judge_piece(
     alloc: Global,
     cutter: &mut Cutter,
-    judge: &mut AnyMonitor,
+    judge: &mut Judge,
     except: &Except,
     piece: &[u8],
 ) -> Result<(), AllocError>
-    requires labels { except.now ≡ (fed_by judge.old).rules.labels }
+    requires labels { except.now ≡ (judging_of judge.old).terms.rules.labels }
     requires short { length piece.now ≤ 2 ^ 20 }
-    requires open { (fed_by judge.old).certain ≡ None }
+    requires open { (judging_of judge.old).certain ≡ None }
     ensures cut { OnOk result (cutter.new ≡ fed cutter.old piece.now) }
-    ensures rules { (fed_by judge.new).rules ≡ (fed_by judge.old).rules }
-    ensures explains { explains_in judge.new ≡ explains_in judge.old }
-    ensures parts { OnOk result ((fed_by judge.new).parts ≡ (fed_by judge.old).parts ++ map reading_of (option_to_list (block_of cutter.old piece.now))) }
-    ensures certain { IfSome (fed_by judge.new).certain (IsCertain (fed_by judge.new).parts (fed_by judge.new).rules) }
-    ensures going_on { OnOk result (IsOpen (fed_by judge.old).parts (fed_by judge.old).rules → (fed_by judge.new).certain ≡ None → IsOpen (fed_by judge.new).parts (fed_by judge.new).rules) }
+    ensures terms { (judging_of judge.new).terms ≡ (judging_of judge.old).terms }
+    ensures parts { OnOk result ((judging_of judge.new).parts ≡ (judging_of judge.old).parts ++
+        map reading_of (option_to_list (block_of cutter.old piece.now))) }
+    ensures certain { IfSome (judging_of judge.new).certain
+        (IsCertain (judging_of judge.new).parts (judging_of judge.new).terms.rules) }
+    ensures going_on { OnOk result
+        (IsOpen (judging_of judge.old).parts (judging_of judge.old).terms.rules →
+        (judging_of judge.new).certain ≡ None →
+        IsOpen (judging_of judge.new).parts (judging_of judge.new).terms.rules) }
 {
     match cutter.feed(piece)? {
         None => Ok(()),
@@ -200,18 +201,20 @@ fn judge_piece(
 // Judges a block of whole lines.
 fn judge_block(
     alloc: Global,
-    judge: &mut AnyMonitor,
+    judge: &mut Judge,
     except: &Except,
     block: &[u8],
 ) -> Result<(), AllocError>
-    requires labels { except.now ≡ (fed_by judge.old).rules.labels }
+    requires labels { except.now ≡ (judging_of judge.old).terms.rules.labels }
     requires short { length block.now ≤ 2 ^ 30 }
-    requires open { (fed_by judge.old).certain ≡ None }
-    ensures rules { (fed_by judge.new).rules ≡ (fed_by judge.old).rules }
-    ensures explains { explains_in judge.new ≡ explains_in judge.old }
-    ensures parts { OnOk result ((fed_by judge.new).parts ≡ (fed_by judge.old).parts ++ reading_of block.now ∷ []) }
-    ensures certain { IfSome (fed_by judge.new).certain (IsCertain (fed_by judge.new).parts (fed_by judge.new).rules) }
-    ensures going_on { OnOk result ((fed_by judge.new).certain ≡ None → IsOpen (fed_by judge.new).parts (fed_by judge.new).rules) }
+    requires open { (judging_of judge.old).certain ≡ None }
+    ensures terms { (judging_of judge.new).terms ≡ (judging_of judge.old).terms }
+    ensures parts { OnOk result ((judging_of judge.new).parts ≡ (judging_of judge.old).parts ++
+        reading_of block.now ∷ []) }
+    ensures certain { IfSome (judging_of judge.new).certain
+        (IsCertain (judging_of judge.new).parts (judging_of judge.new).terms.rules) }
+    ensures going_on { OnOk result ((judging_of judge.new).certain ≡ None →
+        IsOpen (judging_of judge.new).parts (judging_of judge.new).terms.rules) }
 {
     let part = parse_block(alloc, block)?;
     judge.feed(&part, except)?;
@@ -222,13 +225,14 @@ fn judge_block(
 fn judge_last(
     alloc: Global,
     cutter: Cutter,
-    judge: &mut AnyMonitor,
+    judge: &mut Judge,
     except: &Except,
 ) -> Result<(), AllocError>
-    requires labels { except.now ≡ (fed_by judge.old).rules.labels }
-    requires open { (fed_by judge.old).certain ≡ None }
-    ensures rules { (fed_by judge.new).rules ≡ (fed_by judge.old).rules }
-    ensures parts { OnOk result ((fed_by judge.new).parts ≡ (fed_by judge.old).parts ++ map reading_of (option_to_list (last_block cutter))) }
+    requires labels { except.now ≡ (judging_of judge.old).terms.rules.labels }
+    requires open { (judging_of judge.old).certain ≡ None }
+    ensures terms { (judging_of judge.new).terms ≡ (judging_of judge.old).terms }
+    ensures parts { OnOk result ((judging_of judge.new).parts ≡ (judging_of judge.old).parts ++
+        map reading_of (option_to_list (last_block cutter))) }
 {
     match cutter.finish()? {
         None => Ok(()),

@@ -2,7 +2,7 @@
 ghost use Rattle.std.specs.Prelude.{◌<◌};
 
 use aero_feed::Feed;
-use aero_model::{Cycle, Except, Limits, Name, Verdict};
+use aero_model::{Cycle, Except, Limits, Name, SharedExcept, Terms, Verdict};
 use std::alloc::Global;
 
 // The helpers below say that a row doesn't hold where memory is refused.
@@ -60,7 +60,13 @@ fn is(words: Option<String>, wanted: &str) -> bool {
 
 fn feed_of(alloc: Global, label: &str) -> Option<Feed> {
     let limits = Limits::new(1000, 5, 10, 10)?;
-    Some(Feed::new(alloc, &limits, except_of(alloc, label)?))
+    feed_with(alloc, limits, except_of(alloc, label)?, false)
+}
+
+fn feed_with(alloc: Global, limits: Limits, except: Except, explain: bool) -> Option<Feed> {
+    let except = SharedExcept::new(alloc, except).ok()?;
+    let terms = Terms::new(limits, except, false, explain);
+    Feed::new(alloc, terms).ok()
 }
 
 // Whether all pieces of so many bytes are taken.
@@ -229,7 +235,7 @@ fn long_verdict(alloc: Global, count: u32, size: usize) -> Option<String>
 fn greatest_verdict(alloc: Global, none: Except, text: &[u8], size: usize) -> Option<String>
     requires { 0 < size }
 {
-    let feed = Feed::new(alloc, &Limits::greatest(), none);
+    let feed = feed_with(alloc, Limits::greatest(), none, false)?;
     verdict_in_pieces(alloc, feed, text, size)
 }
 
@@ -321,7 +327,7 @@ fn label_words(alloc: Global, label: &Option<Name>) -> Option<String> {
 
 fn explaining_feed_of(alloc: Global, label: &str) -> Option<Feed> {
     let limits = Limits::new(1000, 5, 10, 10)?;
-    Feed::explaining(alloc, &limits, except_of(alloc, label)?).ok()
+    feed_with(alloc, limits, except_of(alloc, label)?, true)
 }
 
 // What is shown of the text that was fed.
@@ -444,7 +450,7 @@ fn sizes_shown(feed: &mut Feed, text: &[u8]) -> Option<(usize, usize, u32)> {
 fn ring_shown(alloc: Global, threads: u32) -> Option<(usize, usize, u32)> {
     let text = ring(alloc, threads)?;
     let none = Except::new(Vec::new(alloc))?;
-    let mut feed = Feed::explaining(alloc, &Limits::greatest(), none).ok()?;
+    let mut feed = feed_with(alloc, Limits::greatest(), none, true)?;
     sizes_shown(&mut feed, &text)
 }
 

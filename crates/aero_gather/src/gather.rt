@@ -196,7 +196,8 @@ impl Gather {
 
     /// The oldest open question.
     pub fn front(&self) -> Option<&Question>
-        ensures { option_map (λ question. question.now) result ≡ option_map (λ entry. entry.question) (slice_get self.now.entries 0) }
+        ensures { option_map (λ question. question.now) result ≡
+            option_map (λ entry. entry.question) (slice_get self.now.entries 0) }
     {
         match self.slots.first() {
             Some(slot) => Some(&slot.question),
@@ -230,9 +231,11 @@ impl Gather {
 
     /// The same, and gives the question along with its value, so that the caller says where it is freed.
     pub fn settle_with_question(&mut self) -> Result<Option<Settled>, AllocError>
-        ensures settled { IfOk result (λ given. Settles self.old self.old.entries self.new (value_of given)) }
+        ensures settled { IfOk result (λ given. Settles self.old self.old.entries self.new
+            (value_of given)) }
         ensures known { IfOk result (λ given. GivesKnown self.old.entries (value_of given)) }
-        ensures question { IfOk result (λ given. option_map (λ settled. arc_value settled.question) given ≡
+        ensures question { IfOk result
+            (λ given. option_map (λ settled. arc_value settled.question) given ≡
             option_map (λ entry. entry.question) (slice_get self.old.entries 0)) }
         ensures unchanged { OnErr result (self.new ≡ self.old) }
     {

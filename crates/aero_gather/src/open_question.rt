@@ -58,7 +58,8 @@ pub fn has_question(slots: &[OpenQuestion], question: &Question) -> bool
 // Notes that no answer is to be awaited, where there is none yet. The answer says whether it is news.
 pub fn miss(slot: &mut OpenQuestion) -> bool
     ensures news { IsTrue result ↔ ((slot.old.value ≡ None) × (slot.old.missed ≡ false)) }
-    ensures noted { slot.new ≡ if is_none slot.old.value then record slot.old { missed = true } else slot.old }
+    ensures noted { slot.new ≡ if is_none slot.old.value then record slot.old { missed = true } else
+        slot.old }
 {
     if slot.value.is_some() {
         return false;

@@ -1,14 +1,14 @@
 -- A text in which no byte but those that end lines is bad: its lines have none.
-use Rattle.std.proofs.Common.{◌≡◌, ◌-◌, ◌==◌, ◌||◌, ℕ, zero, suc, Bool, true, false, List, [], ◌∷◌, length, take, drop, refl, sym, ◌∙◌, ap, arith}
-use Rattle.std.specs.List.{list_any}
+use Rattle.std.proofs.Common.{◌≡◌, ◌-◌, ◌==◌, ◌||◌, ℕ, zero, suc, Bool, true, false, List, [], ◌∷◌, length, take, drop, refl, sym, ◌∙◌}
+use Rattle.std.specs.List.{list_any, position_or_len, before_first}
 use Rattle.std.specs.Str.Lines.{strip_carriage_return}
 use Rattle.std.specs.Prelude.{slice_index}
 use Rattle.std.proofs.lemmas.Bool.{cond_both}
-use Rattle.std.proofs.lemmas.List.{take_all}
-use Rattle.memchr.specs.Find.{Nowhere, NoneBefore, Passes, is_byte}
+use Rattle.memchr.specs.Find.{NoneBefore, Passes, is_byte}
+use Rattle.aero_model.specs.Lines.{is_line_end}
 use Rattle.aero_model.specs.Names.{is_bad_byte}
 use Rattle.aero_grammar.specs.Meaning.{is_unfit}
-use Rattle.aero_grammar.proofs.LinesRead.{EndsNowhere, EndsNowhere-tail, head_stays, ends_nowhere}
+use Rattle.aero_grammar.proofs.LinesRead.{EndsNowhere, EndsNowhere-tail, head_stays, ends_nowhere, none_before_first}
 
 neither : (a b : Bool) → (a || b) ≡ false → (a ≡ false) × (b ≡ false)
 neither true b e = cc
@@ -42,9 +42,8 @@ clean_line text n first fit = front_is_good n text (ends_nowhere n text first.be
 pub clean_behind : (text : List ℕ) (n : ℕ) → list_any is_unfit text ≡ false → list_any is_unfit (drop n text) ≡ false
 clean_behind text n fit = rest_is_fit n text fit
 
--- a text without a byte 10 is good
-pub clean_last : (text : List ℕ) → Nowhere (Passes (is_byte 10) text) 0 (length text) → list_any is_unfit text ≡ false → list_any is_bad_byte text ≡ false
-clean_last text none fit = ap (list_any is_bad_byte) (sym (take_all (length text) text (omega arith))) ∙ front_is_good (length text) text (ends_nowhere (length text) text none) fit
+pub clean_first : (text : List ℕ) → list_any is_unfit text ≡ false → list_any is_bad_byte (before_first is_line_end text) ≡ false
+clean_first text fit = front_is_good (position_or_len is_line_end text) text (none_before_first text) fit
 
 good_front : (n : ℕ) (text : List ℕ) → list_any is_bad_byte text ≡ false → list_any is_bad_byte (take n text) ≡ false
 good_front zero text good = refl

@@ -3,6 +3,7 @@ pub mod Clean
 pub mod CommonShape
 pub mod Events
 pub mod Fields
+pub mod FirstPart
 pub mod Joined
 pub mod LinesRead
 pub mod OwnFaults

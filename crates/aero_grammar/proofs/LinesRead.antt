@@ -1,17 +1,17 @@
 -- The reading of a text, a line at a time.
-use Rattle.std.proofs.Common.{◌≡◌, ◌<◌, ◌≤◌, ◌+◌, ◌==◌, ℕ, zero, suc, true, false, List, [], ◌∷◌, ◌++◌, length, take, drop, get_or, map, Some, None, Result, Ok, Err, OnErr, refl, true≢false, sym, ◌∙◌, ap, arith, length-append}
-use Rattle.std.specs.List.{slice_split, position_or_len}
+use Rattle.std.proofs.Common.{◌≡◌, ◌<◌, ◌≤◌, ◌+◌, ◌==◌, ℕ, suc, true, false, List, [], ◌∷◌, ◌++◌, length, take, drop, get_or, map, Some, None, Result, Ok, Err, OnErr, refl, true≢false, sym, ◌∙◌, ap, arith, length-append}
+use Rattle.std.specs.List.{position_or_len}
 use Rattle.std.proofs.lemmas.List.{append-nil, get_or-take}
-use Rattle.std.proofs.lemmas.List.Sums.{fails_before_first, passes_at_first}
-use Rattle.std.proofs.lemmas.List.Splits.{length-slice_split}
+use Rattle.std.proofs.lemmas.List.Sums.{fails_before_first, passes_at_first, position_or_len_is}
 use Rattle.std.proofs.lemmas.Bool.{ne_eqb, eqb-true, eq-eqb}
 use Rattle.memchr.specs.Find.{Nowhere, NoneBefore, Passes, is_byte}
 use Rattle.aero_model.specs.declared.verdict.LineFault.{LineFault}
 use Rattle.aero_model.specs.declared.verdict.LineFault.TheVariants.{Memory}
-use Rattle.aero_model.specs.Lines.{is_line_end, without_empty_last, lines_of}
+use Rattle.aero_model.specs.Lines.{is_line_end, lines_of}
 use Rattle.aero_model.specs.Named.{Named}
 use Rattle.aero_grammar.specs.Meaning.{Meaning, Blank, Means, Faulty, TellsMeaning, meaning}
 use Rattle.aero_grammar.specs.Reading.{Reading, after_lines, followed_by, whole_reading, line_reading, reading_of}
+use Rattle.aero_grammar.proofs.FirstPart.{first_part, found_at}
 use Rattle.aero_grammar.proofs.Joined.{reading, followed_by_assoc, followed_by_nothing}
 
 -- no byte before the place n is 10
@@ -31,38 +31,14 @@ pub ends_nowhere : (n : ℕ) (text : List ℕ) → Nowhere (Passes (is_byte 10) 
 unfolding EndsNowhere
 ends_nowhere n text none k lt is = none k (omega arith) lt (eq-eqb (get_or text k 0) 10 is)
 
--- the text is cut at its first byte 10
-split_at_end : (n : ℕ) (text : List ℕ) → n < length text → EndsNowhere n text → get_or text n 0 ≡ 10 →
-    slice_split is_line_end text ≡ take n text ∷ slice_split is_line_end (drop (suc n) text)
-split_at_end n [] below none ends = absurd (omega arith)
-split_at_end zero (x ∷ text) below none ends = let here : (x == 10) ≡ true = eq-eqb x 10 ends in rw here refl
-split_at_end (suc n) (x ∷ text) below none ends =
-    let here : (x == 10) ≡ false = head_stays n x text none in
-    let later : slice_split is_line_end text ≡ take n text ∷ slice_split is_line_end (drop (suc n) text) = split_at_end n text (omega (arith, below)) (EndsNowhere-tail n x text none) ends in
-    rw (here, later) refl
-
--- a text without a byte 10 is one part
-split_nowhere : (text : List ℕ) → EndsNowhere (length text) text → slice_split is_line_end text ≡ text ∷ []
-split_nowhere [] none = refl
-split_nowhere (x ∷ text) none =
-    let here : (x == 10) ≡ false = head_stays (length text) x text none in
-    let later : slice_split is_line_end text ≡ text ∷ [] = split_nowhere text (EndsNowhere-tail (length text) x text none) in
-    rw (here, later) refl
-
-without_empty_last-cons : (part : List ℕ) (parts : List (List ℕ)) → 0 < length parts → without_empty_last (part ∷ parts) ≡ part ∷ without_empty_last parts
-without_empty_last-cons part [] some = absurd (omega arith)
-without_empty_last-cons part (next ∷ more) some = refl
+pub none_before_first : (text : List ℕ) → EndsNowhere (position_or_len is_line_end text) text
+unfolding EndsNowhere
+none_before_first text k lt is = true≢false (sym (eq-eqb (get_or text k 0) 10 is) ∙ fails_before_first is_line_end text k 0 lt)
 
 -- what a search for the first byte 10 says of the lines
 pub lines_at : (text : List ℕ) (n : ℕ) → NoneBefore (Passes (is_byte 10) text) 0 (length text) n → Passes (is_byte 10) text n → lines_of text ≡ take n text ∷ lines_of (drop (n + 1) text)
-unfolding EndsNowhere
 lines_at text n first here =
-    let split : slice_split is_line_end text ≡ take n text ∷ slice_split is_line_end (drop (suc n) text) =
-    split_at_end n text first.high (λ k lt is. first.before k (omega arith) lt (eq-eqb (get_or text k 0) 10 is)) (eqb-true (get_or text n 0) 10 here) in
-    let behind = slice_split is_line_end (drop (suc n) text) in
-    let some : 0 < length behind = omega (arith, length-slice_split is_line_end (drop (suc n) text)) in
-    let next : suc n ≡ n + 1 = omega arith in
-    ap without_empty_last split ∙ without_empty_last-cons (take n text) behind some ∙ ap (λ k. take n text ∷ lines_of (drop k text)) next
+    first_part is_line_end text (omega (arith, first.high)) ∙ ap (λ k. take k text ∷ lines_of (drop (k + 1) text)) (found_at 10 text n first here)
 
 -- the same of a text whose first byte 10 stands among its first n bytes
 module _ (text : List ℕ) (n end : ℕ) (at : end ≡ position_or_len is_line_end (take n text)) (below : end < n) (long : length (take n text) ≡ n) where
@@ -79,19 +55,11 @@ module _ (text : List ℕ) (n end : ℕ) (at : end ≡ position_or_len is_line_e
       ∙ eqb-true (get_or (take n text) (position_or_len is_line_end (take n text)) 0) 10 (passes_at_first is_line_end (take n text) 0 (omega (arith, at, below, long)))
 
   pub lines_cut : n ≤ length text → lines_of text ≡ take end text ∷ lines_of (drop (end + 1) text)
+  unfolding EndsNowhere
   lines_cut wide =
-      let split = split_at_end end text (omega (arith, below, wide)) none_before stands_there in
-      let behind = slice_split is_line_end (drop (suc end) text) in
-      let some : 0 < length behind = omega (arith, length-slice_split is_line_end (drop (suc end) text)) in
-      let next : suc end ≡ end + 1 = omega arith in
-      ap without_empty_last split ∙ without_empty_last-cons (take end text) behind some ∙ ap (λ k. take end text ∷ lines_of (drop k text)) next
-
-pub lines_nowhere : (text : List ℕ) → 0 < length text → Nowhere (Passes (is_byte 10) text) 0 (length text) → lines_of text ≡ text ∷ []
-unfolding EndsNowhere
-lines_nowhere text some none =
-    let split : slice_split is_line_end text ≡ text ∷ [] = split_nowhere text (λ k lt is. none k (omega arith) lt (eq-eqb (get_or text k 0) 10 is)) in
-    let filled : (length text == 0) ≡ false = ne_eqb (length text) 0 (λ e. omega (arith, e, some)) in
-    ap without_empty_last split ∙ rw filled refl
+      let place : position_or_len is_line_end text ≡ end =
+      position_or_len_is is_line_end text end 0 (omega (arith, below, wide)) (λ k lt. ne_eqb (get_or text k 0) 10 (none_before k lt)) (λ _. eq-eqb (get_or text end 0) 10 stands_there) in
+      first_part is_line_end text (omega (arith, below, wide)) ∙ ap (λ k. take k text ∷ lines_of (drop (k + 1) text)) place
 
 -- the text so far, one line more, and the rest
 pub one_more_line : (events : List (ℕ × Named)) (n : ℕ) (whole : Reading) (rest line behind : List ℕ) → whole ≡ followed_by (reading events n None) (reading_of rest) → lines_of rest ≡ line ∷ lines_of behind →

@@ -67,7 +67,8 @@ impl Batch {
     /// `AllocError` where memory is refused, where there are 2^31 - 1 lines, or where the names of a
     /// kind would have over 2^32 - 1 bytes in all; and at each call from then on.
     pub fn push(&mut self, event: &Event) -> Result<(), AllocError>
-        ensures said { OnOk result (self.new.reading ≡ followed_by self.old.reading (line_reading (Means event.now))) }
+        ensures said { OnOk result (self.new.reading ≡
+            followed_by self.old.reading (line_reading (Means event.now))) }
         ensures fresh { OnOk result (self.new.is_spent ≡ false) }
         ensures spent { OnErr result (self.new.is_spent ≡ true) }
         ensures stays { self.old.is_spent ≡ true → self.new.is_spent ≡ true }
@@ -90,7 +91,8 @@ impl Batch {
     /// `AllocError` where there are 2^31 - 1 lines, or where a line was refused; and at each call from
     /// then on.
     pub fn push_blank(&mut self) -> Result<(), AllocError>
-        ensures said { OnOk result (self.new.reading ≡ followed_by self.old.reading (line_reading Blank)) }
+        ensures said { OnOk result (self.new.reading ≡
+            followed_by self.old.reading (line_reading Blank)) }
         ensures fresh { OnOk result (self.new.is_spent ≡ false) }
         ensures spent { OnErr result (self.new.is_spent ≡ true) }
         ensures stays { self.old.is_spent ≡ true → self.new.is_spent ≡ true }
@@ -143,8 +145,10 @@ fn add(
     requires { HasRoom tables.old 2 }
     ensures event { OnOk result (IsEvent event.now) }
     ensures names { OnOk result (lists_in tables.new ≡ with_event (lists_in tables.old) event.now) }
-    ensures labels { OnOk result (labels_in tables.new ≡ labels_after (labels_in tables.old) event.now.op event.now.target) }
-    ensures events { OnOk result (events.new.items ≡ events.old.items ++ (line, numbered_in_turn (lists_in tables.old) (labels_in tables.old) event.now) ∷ []) }
+    ensures labels { OnOk result (labels_in tables.new ≡ labels_after (labels_in tables.old)
+        event.now.op event.now.target) }
+    ensures events { OnOk result (events.new.items ≡ events.old.items ++
+        (line, numbered_in_turn (lists_in tables.old) (labels_in tables.old) event.now) ∷ []) }
     ensures grown { OnOk result (HasGrown tables.old tables.new 2) }
 {
     let Some(words) = words_in(event) else {

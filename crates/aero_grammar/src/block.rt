@@ -2,14 +2,13 @@
 ghost use Rattle.std.specs.Prelude.{◌≡◌, ◌<◌, ◌≤◌, ◌^◌, ◌∷◌, [], length, true, false, IfOk, OnErr};
 ghost use Rattle.std.specs.List.{list_any};
 ghost use Rattle.aero_model.specs.Lines.{lines_of};
-ghost use Rattle.aero_model.specs.Names.{is_bad_byte};
 ghost use Rattle.aero_grammar.specs.Meaning.{is_unfit, meaning};
 ghost use Rattle.aero_grammar.specs.Words.{ReadsMeaning};
 ghost use Rattle.aero_grammar.specs.Lists.{lists_in, labels_in, HasRoom};
 ghost use Rattle.aero_grammar.specs.Reading.{reading_of};
 ghost use Rattle.aero_grammar.specs.Tabled.{lines_in, IsBlock};
 
-use crate::bytes::has_clean_lines;
+use crate::bytes::{first_line, has_clean_lines};
 use crate::line::words_of;
 use crate::line_event::LineEvent;
 use crate::parsed::Parsed;
@@ -17,7 +16,6 @@ use crate::short::{ShortLine, short_line};
 use crate::tables::Tables;
 use crate::words::Words;
 use aero_model::LineFault;
-use memchr::memchr;
 use std::alloc::{AllocError, Global};
 
 // A short line's bytes: a block has seldom more lines than one for as many.
@@ -60,8 +58,14 @@ fn read_lines(
     requires unlabelled { labels_in tables.old ≡ [] }
     requires room { HasRoom tables.old u32.MAX }
     requires empty { events.old.items ≡ [] }
-    ensures block { IfOk result (λ read. IsBlock (lists_in tables.new) (labels_in tables.new) events.new.items read.lines read.fault) }
-    ensures reading { IfOk result (λ read. record { events = lines_in (lists_in tables.new) (labels_in tables.new) events.new.items; lines = read.lines; fault = read.fault } ≡ reading_of bytes.now) }
+    ensures block { IfOk result (λ read. IsBlock (lists_in tables.new) (labels_in tables.new)
+        events.new.items read.lines read.fault) }
+    ensures reading { IfOk result (λ read.
+        record {
+          events = lines_in (lists_in tables.new) (labels_in tables.new) events.new.items;
+          lines = read.lines;
+          fault = read.fault;
+        } ≡ reading_of bytes.now) }
     ensures lines { IfOk result (λ read. read.lines ≤ length bytes.now) }
     ensures refused { OnErr result (0 < length (reading_of bytes.now).events) }
 {
@@ -152,7 +156,11 @@ pub(crate) fn parsed(
     fault: Option<(u32, LineFault)>,
 ) -> Parsed
     requires { IsBlock (lists_in tables) (labels_in tables) events.items lines fault }
-    ensures { result ≡ record { events = lines_in (lists_in tables) (labels_in tables) events.items; lines = lines; fault = fault } }
+    ensures { result ≡ record {
+      events = lines_in (lists_in tables) (labels_in tables) events.items;
+      lines = lines;
+      fault = fault;
+    } }
 {
     let Tables {
         threads,
@@ -169,20 +177,5 @@ pub(crate) fn parsed(
         events,
         lines,
         fault,
-    }
-}
-
-// The text's first line, without its byte 10, and what follows that.
-#[inline(always)]
-fn first_line(text: &[u8]) -> (&[u8], &[u8])
-    requires { 0 < length text.now }
-    ensures lines { lines_of text.now ≡ result.0.now ∷ lines_of result.1.now }
-    ensures shorter { length result.1.now < length text.now }
-    ensures good { list_any is_unfit text.now ≡ false → list_any is_bad_byte result.0.now ≡ false }
-    ensures fit { list_any is_unfit text.now ≡ false → list_any is_unfit result.1.now ≡ false }
-{
-    match memchr(b'\n', text) {
-        Some(end) => (&text[..end], &text[end + 1..]),
-        None => (text, &text[text.len()..]),
     }
 }

@@ -38,6 +38,8 @@
 //!   `stays`.
 //! - Blocks of whole lines read, one after the other, as their join. A text reads as its front up to where a line is
 //!   too long: `laws`.
+//! - The first line of a text is the first of its lines, and the lines of what is behind it are the others; any text is cut
+//!   at the first such byte: `bytes::first_line`, `split_at_byte`.
 #![tactic(auto)]
 
 pub mod batch;

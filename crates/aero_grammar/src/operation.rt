@@ -14,7 +14,8 @@ use aero_model::{LineFault, Op};
 // The words of a thread's event, by what its operation's field says.
 #[inline(always)]
 pub fn parse_operation<'a>(thread: &'a [u8], field: &'a [u8]) -> Result<Words<'a>, LineFault>
-    ensures { ReadsEvent result (word_meaning thread.now field.now (operation_of_word (operation_word field.now))) }
+    ensures { ReadsEvent result (word_meaning thread.now field.now
+        (operation_of_word (operation_word field.now))) }
 {
     let end = place_of(b'(', field);
     let Some(op) = operation_of(&field[..end]) else {
@@ -88,7 +89,12 @@ fn enclosed(field: &[u8], place: usize) -> Option<&[u8]>
 fn event_alone<'a>(thread: &'a [u8], op: Op, enclosed: &'a [u8]) -> Result<Words<'a>, LineFault>
     requires { is_alone op ≡ true }
     ensures { ReadsEvent result (if is_long thread.now then Faulty LineFault.NameTooLong else
-        Means (record { thread = thread.now; op = op; target = label_of_op op (label_in enclosed.now) })) }
+        Means (record {
+          thread = thread.now;
+          op = op;
+          target = label_of_op op
+              (label_in enclosed.now);
+        })) }
 {
     if is_long_name(thread) {
         return Err(LineFault::NameTooLong);

@@ -60,7 +60,8 @@ pub fn short_line(text: &[u8]) -> Option<ShortLine<'_>>
 fn line_end(text: &[u8]) -> Option<usize>
     requires wide { 64 ≤ length text.now }
     requires clean { list_any is_unfit text.now ≡ false }
-    ensures lines { IfSome result (λ end. lines_of text.now ≡ take end text.now ∷ lines_of (drop (end + 1) text.now)) }
+    ensures lines { IfSome result (λ end. lines_of text.now ≡
+        take end text.now ∷ lines_of (drop (end + 1) text.now)) }
     ensures good { IfSome result (λ end. list_any is_bad_byte (take end text.now) ≡ false) }
     ensures within { IfSome result (λ end. end < length text.now) }
     ensures few { IfSome result (λ end. end ≤ 4096) }
@@ -78,7 +79,8 @@ fn line_end(text: &[u8]) -> Option<usize>
 // The place of the byte 10 that ends the first line of such a text, where that has up to 4,096 bytes.
 fn far_line_end(text: &[u8]) -> Option<usize>
     requires clean { list_any is_unfit text.now ≡ false }
-    ensures lines { IfSome result (λ end. lines_of text.now ≡ take end text.now ∷ lines_of (drop (end + 1) text.now)) }
+    ensures lines { IfSome result (λ end. lines_of text.now ≡
+        take end text.now ∷ lines_of (drop (end + 1) text.now)) }
     ensures good { IfSome result (λ end. list_any is_bad_byte (take end text.now) ≡ false) }
     ensures within { IfSome result (λ end. end < length text.now) }
     ensures few { IfSome result (λ end. end ≤ 4096) }
@@ -115,7 +117,8 @@ fn short_fields(text: &[u8], end: usize) -> Option<(&[u8], &[u8], u64)>
     ensures barred { IfSome result (λ f. list_any is_bar (take end text.now) ≡ true) }
     ensures thread { IfSome result (λ f. f.0.now ≡ before_first is_bar (take end text.now)) }
     ensures short { IfSome result (λ f. length f.0.now < 32) }
-    ensures field { IfSome result (λ f. f.1.now ≡ before_first is_bar (after_first is_bar (take end text.now))) }
+    ensures field { IfSome result (λ f. f.1.now ≡
+        before_first is_bar (after_first is_bar (take end text.now))) }
     ensures within { IfSome result (λ f. length f.1.now < 32) }
     ensures word { IfSome result (λ f. take (length f.1.now) (to_le_bytes w64 f.2) ≡ take 8 f.1.now) }
 {
@@ -296,7 +299,8 @@ fn sign_of(word: u64) -> Sign
 #[inline(always)]
 fn is_worded(sign: Sign, word: u64) -> bool
     requires { IsSign sign }
-    ensures { IsTrue result → take (length (word_of sign.op)) (to_le_bytes w64 word) ≡ word_of sign.op }
+    ensures { IsTrue result → take (length (word_of sign.op)) (to_le_bytes w64 word) ≡
+        word_of sign.op }
 {
     word & sign.mask == sign.number
 }
@@ -333,7 +337,8 @@ fn enclosed(field: &[u8], op: Op, width: usize) -> Option<Option<&[u8]>>
 // What the operation has of what stands in its parentheses.
 #[inline(always)]
 fn target_in(op: Op, inside: &[u8]) -> Option<&[u8]>
-    ensures { option_copied result ≡ (if stands_alone op then label_of op (Some inside.now) else Some inside.now) }
+    ensures { option_copied result ≡
+        (if stands_alone op then label_of op (Some inside.now) else Some inside.now) }
 {
     match op {
         Op::End => None,

@@ -43,9 +43,13 @@ impl Tables {
     pub fn number(&mut self, words: Words<'_>) -> Result<Numbered, AllocError>
         requires event { IsEvent (named_of words) }
         requires room { HasRoom self.old 2 }
-        ensures numbered { IfOk result (λ numbered. numbered ≡ numbered_in_turn (lists_in self.old) (labels_in self.old) (named_of words.entry)) }
-        ensures names { OnOk result (lists_in self.new ≡ with_event (lists_in self.old) (named_of words.entry)) }
-        ensures labels { OnOk result (labels_in self.new ≡ labels_after (labels_in self.old) words.entry.op (option_copied words.entry.target)) }
+        ensures numbered { IfOk result
+            (λ numbered. numbered ≡ numbered_in_turn (lists_in self.old) (labels_in self.old)
+            (named_of words.entry)) }
+        ensures names { OnOk result (lists_in self.new ≡ with_event (lists_in self.old)
+            (named_of words.entry)) }
+        ensures labels { OnOk result (labels_in self.new ≡ labels_after (labels_in self.old)
+            words.entry.op (option_copied words.entry.target)) }
         ensures grown { OnOk result (HasGrown self.old self.new 2) }
     {
         let thread = number_in(&mut self.threads, words.thread)?;
@@ -58,9 +62,12 @@ impl Tables {
     fn number_target(&mut self, op: Op, target: Option<&[u8]>) -> Result<What, AllocError>
         requires alone { is_none target ≡ true → stands_alone op ≡ true }
         requires room { HasRoom self.old 1 }
-        ensures what { IfOk result (λ what. what ≡ what_in_turn (lists_in self.old) (labels_in self.old) op (option_copied target.entry)) }
-        ensures names { OnOk result (lists_in self.new ≡ with_target (lists_in self.old) op (option_copied target.entry)) }
-        ensures labels { OnOk result (labels_in self.new ≡ labels_after (labels_in self.old) op (option_copied target.entry)) }
+        ensures what { IfOk result (λ what. what ≡ what_in_turn (lists_in self.old)
+            (labels_in self.old) op (option_copied target.entry)) }
+        ensures names { OnOk result (lists_in self.new ≡ with_target (lists_in self.old) op
+            (option_copied target.entry)) }
+        ensures labels { OnOk result (labels_in self.new ≡ labels_after (labels_in self.old) op
+            (option_copied target.entry)) }
         ensures grown { OnOk result (HasGrown self.old self.new 1) }
     {
         match target {
@@ -73,9 +80,12 @@ impl Tables {
     #[inline(always)]
     fn number_name(&mut self, op: Op, target: &[u8]) -> Result<What, AllocError>
         requires { HasRoom self.old 1 }
-        ensures what { IfOk result (λ what. what ≡ what_in_turn (lists_in self.old) (labels_in self.old) op (Some target.now)) }
-        ensures names { OnOk result (lists_in self.new ≡ with_target (lists_in self.old) op (Some target.now)) }
-        ensures labels { OnOk result (labels_in self.new ≡ labels_after (labels_in self.old) op (Some target.now)) }
+        ensures what { IfOk result (λ what. what ≡ what_in_turn (lists_in self.old)
+            (labels_in self.old) op (Some target.now)) }
+        ensures names { OnOk result (lists_in self.new ≡ with_target (lists_in self.old) op
+            (Some target.now)) }
+        ensures labels { OnOk result (labels_in self.new ≡ labels_after (labels_in self.old) op
+            (Some target.now)) }
         ensures grown { OnOk result (HasGrown self.old self.new 1) }
     {
         match op {

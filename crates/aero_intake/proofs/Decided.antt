@@ -1,4 +1,4 @@
--- Blocks after a malformed line, or after one line too many, don't count.
+-- Chunks after a malformed line, or after one line too many, don't count.
 use Rattle.std.proofs.Common.{◌≡◌, ℕ, suc, ◌+◌, ◌<◌, nat_le, nat_lt, true, false, List, [], ◌∷◌, ◌++◌, map, filter, Option, Some, None, refl, sym, ◌∙◌, ap}
 use Rattle.std.proofs.Common.{subst, inl, inr, arith}
 use Rattle.std.specs.Prelude.{IfSome, is_some, option_map, if◌then◌else◌}
@@ -12,8 +12,8 @@ use Rattle.aero_grammar.specs.Meaning.{Meaning, Blank, Means, Faulty, meaning}
 use Rattle.aero_grammar.specs.Reading.{Reading, after_lines, followed_by, whole_reading, line_reading, reading_of, events_within, fault_within, malformed_line}
 use Rattle.aero_grammar.proofs.Joined.{reading, whole_reading-append}
 use Rattle.aero_verdict.proofs.Readings.{after_faulty, after_faultless}
-use Rattle.aero_verdict.specs.Verdict.{Rules}
-use Rattle.aero_intake.specs.Laws.{AreJudgedAlike, FirstBlocksDecide}
+use Rattle.aero_model.specs.Terms.{Rules}
+use Rattle.aero_intake.specs.Laws.{AreJudgedAlike, FirstChunksDecide}
 use Rattle.aero_intake.specs.Tracks.{decides}
 use Rattle.aero_intake.proofs.Judged.{counted_alike}
 use Rattle.aero_verdict.proofs.SameVerdict.{one_read}
@@ -42,9 +42,9 @@ lines_above [] = tt
 lines_above (line ∷ more) = both_above (line_reading (meaning line)) (whole_reading (map (λ line. line_reading (meaning line)) more))
     (line_above (meaning line)) (lines_above more)
 
-blocks_above : (blocks : List (List ℕ)) → FaultAbove (whole_reading (map reading_of blocks))
-blocks_above [] = tt
-blocks_above (block ∷ more) = both_above (reading_of block) (whole_reading (map reading_of more)) (lines_above (lines_of block)) (blocks_above more)
+chunks_above : (chunks : List (List ℕ)) → FaultAbove (whole_reading (map reading_of chunks))
+chunks_above [] = tt
+chunks_above (block ∷ more) = both_above (reading_of block) (whole_reading (map reading_of more)) (lines_above (lines_of block)) (chunks_above more)
 
 -- what comes after more lines than may be
 
@@ -96,7 +96,7 @@ front_counts : (rules : Rules) (parts : List Reading) (more : List (List ℕ)) �
 front_counts rules parts more is =
     let w = whole_reading parts in
     let v = whole_reading (map reading_of more) in
-    rw (whole_reading-append parts (map reading_of more)) (counts_alike rules.limits.lines w.events w.lines w.fault v is (blocks_above more))
+    rw (whole_reading-append parts (map reading_of more)) (counts_alike rules.limits.lines w.events w.lines w.fault v is (chunks_above more))
 
 pub first_parts_decide : (rules : Rules) (parts : List Reading) (more : List (List ℕ)) → decides rules.limits parts ≡ true →
     AreJudgedAlike parts (parts ++ map reading_of more) rules
@@ -104,12 +104,12 @@ first_parts_decide rules parts more is =
     let alike = front_counts rules parts more is in
     counted_alike rules parts (parts ++ map reading_of more) alike.events alike.fault
 
-pub first_blocks_decide : FirstBlocksDecide
-first_blocks_decide front more rules is =
+pub first_chunks_decide : FirstChunksDecide
+first_chunks_decide front more rules is =
     subst (λ rs. AreJudgedAlike (map reading_of front) rs rules) (sym (map-append reading_of front more))
     (first_parts_decide rules (map reading_of front) more is)
 
--- how many lines there are with one block more, and whether one of them is malformed
+-- how many lines there are with one chunk more, and whether one of them is malformed
 
 more_read : (rs : List Reading) (r : Reading) → whole_reading (rs ++ r ∷ []) ≡ followed_by (whole_reading rs) r
 more_read rs r = whole_reading-append rs (r ∷ []) ∙ ap (followed_by (whole_reading rs)) (one_read r)

@@ -10,10 +10,11 @@ use Rattle.aero_model.specs.declared.verdict.Verdict.TheVariants.{Serializable, 
 use Rattle.aero_grammar.specs.Reading.{Reading, reading_of}
 use Rattle.aero_verdict.specs.Explained.{IsCycleOf}
 use Rattle.aero_verdict.specs.Fed.{IsCertain}
-use Rattle.aero_verdict.specs.Finding.{Terms, IsTraceFinding}
+use Rattle.aero_verdict.specs.Finding.{IsTraceFinding}
+use Rattle.aero_model.specs.Terms.{Terms, Rules}
 use Rattle.aero_verdict.specs.Opened.{has_blocks}
 use Rattle.aero_verdict.specs.Ordered.{has_order, is_faultless}
-use Rattle.aero_verdict.specs.Verdict.{Rules, IsVerdict}
+use Rattle.aero_verdict.specs.Verdict.{IsVerdict}
 use Rattle.aero_verdict.proofs.OneVerdict.{one_verdict}
 use Rattle.aero_verdict.proofs.Staying.{certain_more}
 use Rattle.aero_intake.specs.Held.{IsDecisive}
@@ -90,13 +91,13 @@ some_certain_decides terms parts rules None same is some = cc (some)
 some_certain_decides terms parts rules (Some v) same is some =
     certain_decides terms parts v (subst (λ (r : Rules). IsCertain parts r v) same is)
 
--- more blocks decide where the first ones do
-pub more_decide : (terms : Terms) (parts : List Reading) (blocks : List (List ℕ)) → IsDecisive terms parts → IsDecisive terms (parts ++ map reading_of blocks)
-more_decide terms parts blocks is more f =
-    let here = is blocks f in
-    let there = is (blocks ++ more) f in
-    let same : parts ++ map reading_of (blocks ++ more) ≡ (parts ++ map reading_of blocks) ++ map reading_of more =
-    ap (λ rs. parts ++ rs) (map-append reading_of blocks more) ∙ sym (append_assoc parts (map reading_of blocks) (map reading_of more)) in (
+-- more chunks decide where the first ones do
+pub more_decide : (terms : Terms) (parts : List Reading) (chunks : List (List ℕ)) → IsDecisive terms parts → IsDecisive terms (parts ++ map reading_of chunks)
+more_decide terms parts chunks is more f =
+    let here = is chunks f in
+    let there = is (chunks ++ more) f in
+    let same : parts ++ map reading_of (chunks ++ more) ≡ (parts ++ map reading_of chunks) ++ map reading_of more =
+    ap (λ rs. parts ++ rs) (map-append reading_of chunks more) ∙ sym (append_assoc parts (map reading_of chunks) (map reading_of more)) in (
       λ found. here.1 (there.0 (subst (λ rs. IsTraceFinding rs terms f) (sym same) found)),
       λ found. subst (λ rs. IsTraceFinding rs terms f) same (there.1 (here.0 found)),
     )

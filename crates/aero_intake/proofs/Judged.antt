@@ -1,4 +1,4 @@
--- The blocks of a text have its verdicts, its serial order and its telling cycles.
+-- The chunks of a text have its verdicts, its serial order and its telling cycles.
 use Rattle.std.proofs.Common.{◌≡◌, ℕ, List, [], ◌∷◌, sym, ◌∙◌, ap}
 use Rattle.std.specs.Prelude.{map}
 use Rattle.std.specs.List.{concat}
@@ -8,14 +8,14 @@ use Rattle.aero_grammar.specs.Reading.{Reading, reading_of, whole_reading, event
 use Rattle.aero_grammar.proofs.Joined.{reading_of-cap, reading_of-concat}
 use Rattle.aero_lines.specs.Cutting.{nothing_yet, blocks_from}
 use Rattle.aero_lines.proofs.Runs.{blocks_are_the_text}
-use Rattle.aero_verdict.specs.Finding.{Terms, IsTraceFinding}
-use Rattle.aero_verdict.specs.Verdict.{Rules}
-use Rattle.aero_intake.specs.Laws.{AreJudgedAlike, BlocksJudgeAsTheText}
+use Rattle.aero_verdict.specs.Finding.{IsTraceFinding}
+use Rattle.aero_model.specs.Terms.{Terms, Rules}
+use Rattle.aero_intake.specs.Laws.{AreJudgedAlike, ChunksJudgeAsTheText}
 use Rattle.aero_verdict.proofs.SameVerdict.{one_read, same_verdict, same_order, same_cycle, same_blocks}
 
--- what the blocks say, one after the other, is what the text says
-pub blocks_read : (pieces : List (List ℕ)) → whole_reading (map reading_of (blocks_from nothing_yet pieces)) ≡ reading_of (concat pieces)
-blocks_read pieces =
+-- what the chunks say, one after the other, is what the text says
+pub chunks_read : (pieces : List (List ℕ)) → whole_reading (map reading_of (blocks_from nothing_yet pieces)) ≡ reading_of (concat pieces)
+chunks_read pieces =
     let law = blocks_are_the_text pieces in
     reading_of-concat (blocks_from nothing_yet pieces) law.1 ∙ (ap reading_of law.0 ∙ reading_of-cap (concat pieces))
 
@@ -39,7 +39,7 @@ alike_back rules parts others alike =
       verdicts = λ verdict. ((alike.verdicts verdict).1, (alike.verdicts verdict).0);
       orders = λ steps. ((alike.orders steps).1, (alike.orders steps).0);
       cycles = λ verdict cycle. ((alike.cycles verdict cycle).1, (alike.cycles verdict cycle).0);
-      opened = λ blocks. ((alike.opened blocks).1, (alike.opened blocks).0);
+      opened = λ chunks. ((alike.opened chunks).1, (alike.opened chunks).0);
     }
 
 -- what is judged alike has the same findings
@@ -52,10 +52,10 @@ same_finding terms parts others (Opened verdict blocks) alike is = ((alike.verdi
 same_finding terms parts others (Broken bytes) alike is = absurd is
 same_finding terms parts others TooLarge alike is = absurd is
 
--- what a text says is judged as what its blocks say
-pub judged_alike : BlocksJudgeAsTheText
+-- what a text says is judged as what its chunks say
+pub judged_alike : ChunksJudgeAsTheText
 judged_alike pieces rules =
     let parts = map reading_of (blocks_from nothing_yet pieces) in
     let text = reading_of (concat pieces) in
-    let same : whole_reading parts ≡ whole_reading (text ∷ []) = blocks_read pieces ∙ sym (one_read text) in
+    let same : whole_reading parts ≡ whole_reading (text ∷ []) = chunks_read pieces ∙ sym (one_read text) in
     counted_alike rules parts (text ∷ []) (ap (events_within rules.limits.lines) same) (ap (malformed_line rules.limits.lines) same)

@@ -9,24 +9,24 @@ use Rattle.aero_model.specs.declared.verdict.Ending.{Ending}
 use Rattle.aero_model.specs.declared.verdict.Ending.TheVariants.{Whole, Broken, TooLarge, Stopped}
 use Rattle.aero_lines.specs.Cutting.{Cutting, nothing_yet, fed, block_of, last_block, blocks_from}
 use Rattle.aero_intake.specs.Source.{Sight, Trail, Trails, WasRead}
-use Rattle.aero_intake.specs.Intake.{Taking, nothing_taken, with_piece, with_cut, with_passing, fed_all, blocks_so_far, IsTaken, HaveCome, Ends}
+use Rattle.aero_intake.specs.Intake.{Taking, nothing_taken, with_piece, with_cut, with_passing, fed_all, chunks_so_far, IsTaken, HaveCome, Ends}
 
 fed_all-more : (c : Cutting) (pieces : List (List ℕ)) (piece : List ℕ) → fed_all c (pieces ++ piece ∷ []) ≡ fed (fed_all c pieces) piece
 fed_all-more c [] piece = refl
 fed_all-more c (first ∷ pieces) piece = fed_all-more (fed c first) pieces piece
 
-blocks_so_far-more : (c : Cutting) (pieces : List (List ℕ)) (piece : List ℕ) →
-    blocks_so_far c (pieces ++ piece ∷ []) ≡ blocks_so_far c pieces ++ option_to_list (block_of (fed_all c pieces) piece)
-blocks_so_far-more c [] piece = append-nil (option_to_list (block_of c piece))
-blocks_so_far-more c (first ∷ pieces) piece =
-    ap (λ bs. option_to_list (block_of c first) ++ bs) (blocks_so_far-more (fed c first) pieces piece)
-    ∙ sym (append_assoc (option_to_list (block_of c first)) (blocks_so_far (fed c first) pieces)
+chunks_so_far-more : (c : Cutting) (pieces : List (List ℕ)) (piece : List ℕ) →
+    chunks_so_far c (pieces ++ piece ∷ []) ≡ chunks_so_far c pieces ++ option_to_list (block_of (fed_all c pieces) piece)
+chunks_so_far-more c [] piece = append-nil (option_to_list (block_of c piece))
+chunks_so_far-more c (first ∷ pieces) piece =
+    ap (λ bs. option_to_list (block_of c first) ++ bs) (chunks_so_far-more (fed c first) pieces piece)
+    ∙ sym (append_assoc (option_to_list (block_of c first)) (chunks_so_far (fed c first) pieces)
     (option_to_list (block_of (fed_all (fed c first) pieces) piece)))
 
-blocks_from-last : (c : Cutting) (pieces : List (List ℕ)) → blocks_so_far c pieces ++ option_to_list (last_block (fed_all c pieces)) ≡ blocks_from c pieces
+blocks_from-last : (c : Cutting) (pieces : List (List ℕ)) → chunks_so_far c pieces ++ option_to_list (last_block (fed_all c pieces)) ≡ blocks_from c pieces
 blocks_from-last c [] = refl
 blocks_from-last c (first ∷ pieces) =
-    append_assoc (option_to_list (block_of c first)) (blocks_so_far (fed c first) pieces) (option_to_list (last_block (fed_all (fed c first) pieces)))
+    append_assoc (option_to_list (block_of c first)) (chunks_so_far (fed c first) pieces) (option_to_list (last_block (fed_all (fed c first) pieces)))
     ∙ ap (λ bs. option_to_list (block_of c first) ++ bs) (blocks_from-last (fed c first) pieces)
 
 pub concat-more : (pieces : List (List ℕ)) (piece : List ℕ) → concat (pieces ++ piece ∷ []) ≡ concat pieces ++ piece
@@ -37,8 +37,8 @@ pub nothing_is_taken : IsTaken nothing_taken [] []
 nothing_is_taken = record { cutting = λ not. refl; given = refl; count = refl }
 
 -- a piece comes, and is held
-pub piece_is_held : (i : Taking) (pieces blocks : List (List ℕ)) (piece : List ℕ) → IsTaken i pieces blocks → IsTaken (with_piece i piece) pieces blocks
-piece_is_held i pieces blocks piece is = record {
+pub piece_is_held : (i : Taking) (pieces chunks : List (List ℕ)) (piece : List ℕ) → IsTaken i pieces chunks → IsTaken (with_piece i piece) pieces chunks
+piece_is_held i pieces chunks piece is = record {
   cutting = is.cutting;
   given = is.given;
   count = ap (λ n. n + length piece) is.count ∙ (sym (length-append (concat pieces ++ i.held) piece) ∙ ap length (append_assoc (concat pieces) i.held piece));
@@ -48,28 +48,28 @@ piece_is_held i pieces blocks piece is = record {
 pub cut_bytes : (pieces : List (List ℕ)) (held : List ℕ) → concat (pieces ++ held ∷ []) ++ [] ≡ concat pieces ++ held
 cut_bytes pieces held = append-nil (concat (pieces ++ held ∷ [])) ∙ concat-more pieces held
 
--- what is held is cut, and gives its block
-pub held_is_cut : (i : Taking) (pieces blocks : List (List ℕ)) → i.passed ≡ false → IsTaken i pieces blocks →
-    IsTaken (with_cut i) (pieces ++ i.held ∷ []) (blocks ++ option_to_list (block_of i.cutting i.held))
-held_is_cut i pieces blocks none is = record {
+-- what is held is cut, and gives its chunk
+pub held_is_cut : (i : Taking) (pieces chunks : List (List ℕ)) → i.passed ≡ false → IsTaken i pieces chunks →
+    IsTaken (with_cut i) (pieces ++ i.held ∷ []) (chunks ++ option_to_list (block_of i.cutting i.held))
+held_is_cut i pieces chunks none is = record {
   cutting = λ not. ap (λ c. fed c i.held) (is.cutting not) ∙ sym (fed_all-more nothing_yet pieces i.held);
-  given = ap₂ (λ bs c. bs ++ option_to_list (block_of c i.held)) is.given (is.cutting none) ∙ sym (blocks_so_far-more nothing_yet pieces i.held);
+  given = ap₂ (λ bs c. bs ++ option_to_list (block_of c i.held)) is.given (is.cutting none) ∙ sym (chunks_so_far-more nothing_yet pieces i.held);
   count = is.count ∙ sym (ap length (cut_bytes pieces i.held));
 }
 
--- what is held is passed over, and would have given its block
-pub held_is_passed : (i : Taking) (pieces blocks : List (List ℕ)) → IsTaken i pieces blocks →
-    IsTaken (with_passing i) (pieces ++ i.held ∷ []) (blocks ++ option_to_list (block_of (fed_all nothing_yet pieces) i.held))
-held_is_passed i pieces blocks is = record {
+-- what is held is passed over, and would have given its chunk
+pub held_is_passed : (i : Taking) (pieces chunks : List (List ℕ)) → IsTaken i pieces chunks →
+    IsTaken (with_passing i) (pieces ++ i.held ∷ []) (chunks ++ option_to_list (block_of (fed_all nothing_yet pieces) i.held))
+held_is_passed i pieces chunks is = record {
   cutting = λ not. cc (not);
-  given = ap (λ bs. bs ++ option_to_list (block_of (fed_all nothing_yet pieces) i.held)) is.given ∙ sym (blocks_so_far-more nothing_yet pieces i.held);
+  given = ap (λ bs. bs ++ option_to_list (block_of (fed_all nothing_yet pieces) i.held)) is.given ∙ sym (chunks_so_far-more nothing_yet pieces i.held);
   count = is.count ∙ sym (ap length (cut_bytes pieces i.held));
 }
 
 -- the text ends
-pub blocks_with_last : (i : Taking) (pieces blocks : List (List ℕ)) → IsTaken i pieces blocks →
-    blocks ++ option_to_list (last_block (fed_all nothing_yet pieces)) ≡ blocks_from nothing_yet pieces
-blocks_with_last i pieces blocks is =
+pub chunks_with_last : (i : Taking) (pieces chunks : List (List ℕ)) → IsTaken i pieces chunks →
+    chunks ++ option_to_list (last_block (fed_all nothing_yet pieces)) ≡ blocks_from nothing_yet pieces
+chunks_with_last i pieces chunks is =
     ap (λ bs. bs ++ option_to_list (last_block (fed_all nothing_yet pieces))) is.given ∙ blocks_from-last nothing_yet pieces
 
 -- a reader that gave nothing, and one that gave bytes and then more
@@ -141,16 +141,16 @@ source_was_stopped before after limit count bytes have is within = record {
   rest = tt;
 }
 
--- whatever could follow the pieces, its blocks begin with those that they gave
-pub blocks_with_more : (i : Taking) (pieces blocks : List (List ℕ)) (more : List ℕ) → IsTaken i pieces blocks →
-    (rest : List (List ℕ)) × (blocks ++ rest ≡ blocks_from nothing_yet (pieces ++ more ∷ []))
-blocks_with_more i pieces blocks more is =
+-- whatever could follow the pieces, its chunks begin with those that they gave
+pub chunks_with_more : (i : Taking) (pieces chunks : List (List ℕ)) (more : List ℕ) → IsTaken i pieces chunks →
+    (rest : List (List ℕ)) × (chunks ++ rest ≡ blocks_from nothing_yet (pieces ++ more ∷ []))
+chunks_with_more i pieces chunks more is =
     let c = fed_all nothing_yet pieces in
     let given = option_to_list (block_of c more) in
     let last = option_to_list (last_block (fed_all nothing_yet (pieces ++ more ∷ []))) in (
       given ++ last,
       ap (λ bs. bs ++ (given ++ last)) is.given
-          ∙ (sym (append_assoc (blocks_so_far nothing_yet pieces) given last)
-          ∙ (ap (λ bs. bs ++ last) (sym (blocks_so_far-more nothing_yet pieces more))
+          ∙ (sym (append_assoc (chunks_so_far nothing_yet pieces) given last)
+          ∙ (ap (λ bs. bs ++ last) (sym (chunks_so_far-more nothing_yet pieces more))
           ∙ blocks_from-last nothing_yet (pieces ++ more ∷ []))),
     )

@@ -21,11 +21,12 @@ use Rattle.aero_pieces.specs.declared.question.Question.TheVariants.{Parse, Chec
 use Rattle.aero_pieces.specs.declared.answer.Value.{Value}
 use Rattle.aero_pieces.specs.declared.answer.Value.TheVariants.{Parsed, Judged, Ordered, Explained, Opened}
 use Rattle.aero_pieces.specs.Values.{IsValueOf}
-use Rattle.aero_verdict.specs.Finding.{Terms, asking, to_the_end, IsFinding, IsTraceFinding}
+use Rattle.aero_verdict.specs.Finding.{IsFinding, IsTraceFinding}
+use Rattle.aero_model.specs.Terms.{Terms, asking, to_the_end}
 use Rattle.aero_intake.specs.Held.{Known, with_next, IsDecisive}
 use Rattle.aero_intake.specs.declared.track.Track.{Track}
 use Rattle.aero_intake.specs.declared.track.Track.TheVariants.{Arriving, Arrived, Checking, Found}
-use Rattle.aero_intake.specs.Stories.{Story, Asked, AreEnough, BeginAlike, own_block, own_check, blocks_asked, checks_asked, HasArrived, AreSettled}
+use Rattle.aero_intake.specs.Stories.{Story, Asked, AreEnough, BeginAlike, own_chunk, own_check, chunks_asked, checks_asked, HasArrived, AreSettled}
 use Rattle.aero_intake.specs.Stories.{IsTracked, AreTracked, changed, trace_of}
 use Rattle.aero_intake.specs.Tracks.{with_finding, with_value}
 use Rattle.aero_intake.proofs.AsFar.{found_as_far, found_to_the_end}
@@ -36,12 +37,12 @@ use Rattle.aero_intake.proofs.Values.{parsed_value, not_judged, not_ordered, not
 
 -- what is asked of the sources
 
-own_block-same : (s trace number : ℕ) (bytes : List ℕ) → trace ≡ s → own_block s (Parse trace number bytes) ≡ bytes ∷ []
-own_block-same s trace number bytes same = ap (λ b. if b then bytes ∷ [] else []) (eq-eqb trace s same)
+own_chunk-same : (s trace number : ℕ) (bytes : List ℕ) → trace ≡ s → own_chunk s (Parse trace number bytes) ≡ bytes ∷ []
+own_chunk-same s trace number bytes same = ap (λ b. if b then bytes ∷ [] else []) (eq-eqb trace s same)
 
-pub own_block-other : (s : ℕ) (q : Question) → (trace_of q ≡ s → ⊥) → own_block s q ≡ []
-own_block-other s (Parse trace number bytes) other = ap (λ b. if b then bytes ∷ [] else []) (ne_eqb trace s other)
-own_block-other s (Check trace parts limits labels order explain) other = refl
+pub own_chunk-other : (s : ℕ) (q : Question) → (trace_of q ≡ s → ⊥) → own_chunk s q ≡ []
+own_chunk-other s (Parse trace number bytes) other = ap (λ b. if b then bytes ∷ [] else []) (ne_eqb trace s other)
+own_chunk-other s (Check trace parts limits labels order explain) other = refl
 
 own_check-same : (s trace : ℕ) (parts : List Reading) (limits : Limits) (labels : Listed) (order explain : Bool) → trace ≡ s →
     own_check s (Check trace parts limits labels order explain) ≡ record { parts = parts; terms = asking limits labels order explain } ∷ []
@@ -53,10 +54,10 @@ own_check-other s (Parse trace number bytes) other = refl
 own_check-other s (Check trace parts limits labels order explain) other =
     ap (λ b. if b then record { parts = parts; terms = asking limits labels order explain } ∷ [] else []) (ne_eqb trace s other)
 
-pub blocks_asked-more : (s : ℕ) (qs : List Question) (q : Question) → blocks_asked s (qs ++ q ∷ []) ≡ blocks_asked s qs ++ own_block s q
-blocks_asked-more s [] q = append-nil (own_block s q)
-blocks_asked-more s (p ∷ more) q = ap (λ bs. own_block s p ++ bs) (blocks_asked-more s more q)
-    ∙ sym (append_assoc (own_block s p) (blocks_asked s more) (own_block s q))
+pub chunks_asked-more : (s : ℕ) (qs : List Question) (q : Question) → chunks_asked s (qs ++ q ∷ []) ≡ chunks_asked s qs ++ own_chunk s q
+chunks_asked-more s [] q = append-nil (own_chunk s q)
+chunks_asked-more s (p ∷ more) q = ap (λ bs. own_chunk s p ++ bs) (chunks_asked-more s more q)
+    ∙ sym (append_assoc (own_chunk s p) (chunks_asked s more) (own_chunk s q))
 
 pub checks_asked-more : (s : ℕ) (qs : List Question) (q : Question) → checks_asked s (qs ++ q ∷ []) ≡ checks_asked s qs ++ own_check s q
 checks_asked-more s [] q = append-nil (own_check s q)
@@ -94,46 +95,46 @@ nil_right (x ∷ xs) ys is = cc
 -- settling
 
 -- what is known of a source of which nothing is settled
-settled_other : (terms : Terms) (q : Question) (rest : List Question) (s : ℕ) (story : Story) (t : Track) → own_block s q ≡ [] → own_check s q ≡ [] →
+settled_other : (terms : Terms) (q : Question) (rest : List Question) (s : ℕ) (story : Story) (t : Track) → own_chunk s q ≡ [] → own_check s q ≡ [] →
     IsTracked terms (q ∷ rest) s story t → IsTracked terms rest s story t
-settled_other terms q rest s story (Arriving known) no_block no_check is = (
-  record { on = is.0.on; all = subst (λ bs. known.parts ++ map reading_of (bs ++ blocks_asked s rest) ≡ map reading_of story.blocks) no_block is.0.all },
+settled_other terms q rest s story (Arriving known) no_chunk no_check is = (
+  record { on = is.0.on; all = subst (λ bs. known.parts ++ map reading_of (bs ++ chunks_asked s rest) ≡ map reading_of story.chunks) no_chunk is.0.all },
   subst (λ cs. cs ++ checks_asked s rest ≡ []) no_check is.1,
   is.2,
 )
-settled_other terms q rest s story (Arrived bytes ending blocks known) no_block no_check is = (
-  record { on = is.0.on; all = subst (λ bs. known.parts ++ map reading_of (bs ++ blocks_asked s rest) ≡ map reading_of story.blocks) no_block is.0.all },
+settled_other terms q rest s story (Arrived bytes ending chunks known) no_chunk no_check is = (
+  record { on = is.0.on; all = subst (λ bs. known.parts ++ map reading_of (bs ++ chunks_asked s rest) ≡ map reading_of story.chunks) no_chunk is.0.all },
   subst (λ cs. cs ++ checks_asked s rest ≡ []) no_check is.1,
   is.2,
 )
-settled_other terms q rest s story (Checking bytes ending) no_block no_check is = (
-  subst (λ cs. All (λ a. a ≡ record { parts = map reading_of story.blocks; terms = to_the_end terms }) (cs ++ checks_asked s rest)) no_check is.0,
+settled_other terms q rest s story (Checking bytes ending) no_chunk no_check is = (
+  subst (λ cs. All (λ a. a ≡ record { parts = map reading_of story.chunks; terms = to_the_end terms }) (cs ++ checks_asked s rest)) no_check is.0,
   is.1,
 )
-settled_other terms q rest s story (Found bytes ending finding) no_block no_check is = is
+settled_other terms q rest s story (Found g) no_chunk no_check is = is
 
--- the block that is settled goes from those that are asked about to those that are read
+-- the chunk that is settled goes from those that are asked about to those that are read
 part_settled : (terms : Terms) (story : Story) (rest : List Question) (s trace number most : ℕ) (certain : Bool) (bytes : List ℕ) (known : Known)
     (r : Reading) → trace ≡ s → r ≡ reading_of bytes →
     AreSettled terms story (Parse trace number bytes ∷ rest) s known → AreSettled terms story rest s (with_next most certain known r)
 part_settled terms story rest s trace number most certain bytes known r same is before = record {
   on = before.on;
-  all = append_assoc known.parts (r ∷ []) (map reading_of (blocks_asked s rest))
-      ∙ (ap (λ x. known.parts ++ (x ∷ map reading_of (blocks_asked s rest))) is
-      ∙ (sym (ap (λ bs. known.parts ++ map reading_of (bs ++ blocks_asked s rest)) (own_block-same s trace number bytes same)) ∙ before.all));
+  all = append_assoc known.parts (r ∷ []) (map reading_of (chunks_asked s rest))
+      ∙ (ap (λ x. known.parts ++ (x ∷ map reading_of (chunks_asked s rest))) is
+      ∙ (sym (ap (λ bs. known.parts ++ map reading_of (bs ++ chunks_asked s rest)) (own_chunk-same s trace number bytes same)) ∙ before.all));
 }
 
--- what is found of the blocks that were asked about is found of all
+-- what is found of the chunks that were asked about is found of all
 enough_found : (terms : Terms) (asked all : List (List ℕ)) (f : Finding) → AreEnough terms asked all →
     IsTraceFinding (map reading_of asked) terms f → IsTraceFinding (map reading_of all) terms f
 enough_found terms asked all f (inl same) is = subst (λ bs. IsTraceFinding (map reading_of bs) terms f) same is
 enough_found terms asked all f (inr alike) is =
-    let joined : (blocks rest : List (List ℕ)) → blocks ≡ alike.front ++ rest → map reading_of blocks ≡ map reading_of alike.front ++ map reading_of rest =
-    λ blocks rest are. ap (map reading_of) are ∙ map-append reading_of alike.front rest in
+    let joined : (chunks rest : List (List ℕ)) → chunks ≡ alike.front ++ rest → map reading_of chunks ≡ map reading_of alike.front ++ map reading_of rest =
+    λ chunks rest are. ap (map reading_of) are ∙ map-append reading_of alike.front rest in
     let first = (alike.decided alike.rest f).0 (subst (λ rs. IsTraceFinding rs terms f) (joined asked alike.rest alike.asked_are) is) in
     subst (λ rs. IsTraceFinding rs terms f) (sym (joined all alike.others alike.all_are)) ((alike.decided alike.others f).1 first)
 
--- one more block is asked about, or none
+-- one more chunk is asked about, or none
 pub enough_asked : (terms : Terms) (asked all more : List (List ℕ)) → AreEnough terms asked all → AreEnough terms (asked ++ more) (all ++ more)
 enough_asked terms asked all more (inl same) = inl (ap (λ bs. bs ++ more) same)
 enough_asked terms asked all more (inr alike) = inr (record {
@@ -145,7 +146,7 @@ enough_asked terms asked all more (inr alike) = inr (record {
   decided = alike.decided;
 })
 
--- more blocks are dropped
+-- more chunks are dropped
 pub alike_dropped : (terms : Terms) (asked all more : List (List ℕ)) → BeginAlike terms asked all → BeginAlike terms asked (all ++ more)
 alike_dropped terms asked all more alike = record {
   front = alike.front;
@@ -168,32 +169,32 @@ begin_alike terms asked all decided (inl same) = record {
 }
 begin_alike terms asked all decided (inr alike) = alike
 
--- what is found of enough blocks is found of the text that the pieces are
+-- what is found of enough chunks is found of the text that the pieces are
 text_found : (terms : Terms) (asked pieces : List (List ℕ)) (f : Finding) → AreEnough terms asked (blocks_from nothing_yet pieces) →
     IsTraceFinding (map reading_of asked) terms f → IsTraceFinding (reading_of (concat pieces) ∷ []) terms f
 text_found terms asked pieces f enough found =
     let all = blocks_from nothing_yet pieces in
     same_finding terms (map reading_of all) (reading_of (concat pieces) ∷ []) f (judged_alike pieces terms.rules) (enough_found terms asked all f enough found)
 
--- what is found of the blocks that were asked about is found of the source, as far as it came
-source_found : (ending : Ending) (terms : Terms) (story : Story) (bytes blocks : ℕ) (f : Finding) → HasArrived terms story bytes ending blocks →
-    IsTraceFinding (map reading_of story.blocks) terms f → IsFinding (concat story.pieces) ending terms f
-source_found endings.Whole terms story bytes blocks f has found = text_found terms story.blocks story.pieces f has.enough found
-source_found endings.Stopped terms story bytes blocks f has found = (
+-- what is found of the chunks that were asked about is found of the source, as far as it came
+source_found : (ending : Ending) (terms : Terms) (story : Story) (bytes chunks : ℕ) (f : Finding) → HasArrived terms story bytes ending chunks →
+    IsTraceFinding (map reading_of story.chunks) terms f → IsFinding (concat story.pieces) ending terms f
+source_found endings.Whole terms story bytes chunks f has found = text_found terms story.chunks story.pieces f has.enough found
+source_found endings.Stopped terms story bytes chunks f has found = (
   has.enough.0,
   λ more. subst (λ bs. IsTraceFinding (reading_of bs ∷ []) terms f) (concat-more story.pieces more)
-      (text_found terms story.blocks (story.pieces ++ more ∷ []) f (inr (has.enough.1 more)) found),
+      (text_found terms story.chunks (story.pieces ++ more ∷ []) f (inr (has.enough.1 more)) found),
 )
-source_found endings.Broken terms story bytes blocks f has found = absurd has.enough
-source_found endings.TooLarge terms story bytes blocks f has found = absurd has.enough
+source_found endings.Broken terms story bytes chunks f has found = absurd has.enough
+source_found endings.TooLarge terms story bytes chunks f has found = absurd has.enough
 
 trace_found : (ending : Ending) (terms : Terms) (story : Story) (bytes : ℕ) (parts : List Reading) (asked : Terms) (f : Finding) →
-    ◌≡◌ {A = Asked} (record { parts = parts; terms = asked }) (record { parts = map reading_of story.blocks; terms = to_the_end terms }) →
-    HasArrived terms story bytes ending (length story.blocks) → ∥ IsTraceFinding parts asked f ∥₁ → ∥ IsFinding (concat story.pieces) ending terms f ∥₁
+    ◌≡◌ {A = Asked} (record { parts = parts; terms = asked }) (record { parts = map reading_of story.chunks; terms = to_the_end terms }) →
+    HasArrived terms story bytes ending (length story.chunks) → ∥ IsTraceFinding parts asked f ∥₁ → ∥ IsFinding (concat story.pieces) ending terms f ∥₁
 trace_found ending terms story bytes parts asked f same has known =
-    let there : ∥ IsTraceFinding (map reading_of story.blocks) (to_the_end terms) f ∥₁ = subst (λ (a : Asked). ∥ IsTraceFinding a.parts a.terms f ∥₁) same known in
-    ∥∥₁_elim there squash₁ (λ found. merely (source_found ending terms story bytes (length story.blocks) f has
-    (found_as_far (map reading_of story.blocks) terms f found)))
+    let there : ∥ IsTraceFinding (map reading_of story.chunks) (to_the_end terms) f ∥₁ = subst (λ (a : Asked). ∥ IsTraceFinding a.parts a.terms f ∥₁) same known in
+    ∥∥₁_elim there squash₁ (λ found. merely (source_found ending terms story bytes (length story.chunks) f has
+    (found_as_far (map reading_of story.chunks) terms f found)))
 
 -- what is known of the source whose trace was checked
 settled_check : (terms : Terms) (trace : ℕ) (parts : List Reading) (limits : Limits) (labels : Listed) (order explain : Bool) (rest : List Question)
@@ -202,15 +203,15 @@ settled_check : (terms : Terms) (trace : ℕ) (parts : List Reading) (limits : L
     IsTracked terms (Check trace parts limits labels order explain ∷ rest) s story t → IsTracked terms rest s story (with_finding t f)
 settled_check terms trace parts limits labels order explain rest s story (Arriving k) f same known is =
     (record { on = is.0.on; all = is.0.all }, nil_right (own_check s (Check trace parts limits labels order explain)) (checks_asked s rest) is.1, is.2)
-settled_check terms trace parts limits labels order explain rest s story (Arrived n ending blocks k) f same known is =
+settled_check terms trace parts limits labels order explain rest s story (Arrived n ending chunks k) f same known is =
     (record { on = is.0.on; all = is.0.all }, nil_right (own_check s (Check trace parts limits labels order explain)) (checks_asked s rest) is.1, is.2)
 settled_check terms trace parts limits labels order explain rest s story (Checking n ending) f same known is =
-    let all = subst (λ cs. All (λ a. a ≡ record { parts = map reading_of story.blocks; terms = to_the_end terms }) (cs ++ checks_asked s rest))
+    let all = subst (λ cs. All (λ a. a ≡ record { parts = map reading_of story.chunks; terms = to_the_end terms }) (cs ++ checks_asked s rest))
     (own_check-same s trace parts limits labels order explain same) is.0 in
-    let first = All-head (λ a. a ≡ record { parts = map reading_of story.blocks; terms = to_the_end terms })
+    let first = All-head (λ a. a ≡ record { parts = map reading_of story.chunks; terms = to_the_end terms })
     (record { parts = parts; terms = asking limits labels order explain }) (checks_asked s rest) all in
     (is.1.ended, is.1.byte_count, trace_found ending terms story n parts (asking limits labels order explain) f first is.1 known)
-settled_check terms trace parts limits labels order explain rest s story (Found n ending finding) f same known is = is
+settled_check terms trace parts limits labels order explain rest s story (Found g) f same known is = is
 
 -- what is known of the source of which a question is settled
 settled_own : (terms : Terms) (q : Question) (rest : List Question) (s most : ℕ) (certain : Bool) (story : Story) (t : Track) (v : Value) → trace_of q ≡ s →
@@ -218,10 +219,10 @@ settled_own : (terms : Terms) (q : Question) (rest : List Question) (s most : �
     IsTracked terms (q ∷ rest) s story t → IsTracked terms rest s story (with_value most certain t v)
 settled_own terms (Parse trace number bytes) rest s most certain story (Arriving k) (Parsed r) same known is =
     (part_settled terms story rest s trace number most certain bytes k r same (parsed_value trace number bytes r known) is.0, is.1, is.2)
-settled_own terms (Parse trace number bytes) rest s most certain story (Arrived n ending blocks k) (Parsed r) same known is =
+settled_own terms (Parse trace number bytes) rest s most certain story (Arrived n ending chunks k) (Parsed r) same known is =
     (part_settled terms story rest s trace number most certain bytes k r same (parsed_value trace number bytes r known) is.0, is.1, is.2)
 settled_own terms (Parse trace number bytes) rest s most certain story (Checking n ending) (Parsed r) same known is = is
-settled_own terms (Parse trace number bytes) rest s most certain story (Found n ending finding) (Parsed r) same known is = is
+settled_own terms (Parse trace number bytes) rest s most certain story (Found g) (Parsed r) same known is = is
 settled_own terms (Parse trace number bytes) rest s most certain story t (Judged w) same known is = absurd (not_judged trace number bytes w known)
 settled_own terms (Parse trace number bytes) rest s most certain story t (Ordered w steps) same known is = absurd (not_ordered trace number bytes w steps known)
 settled_own terms (Parse trace number bytes) rest s most certain story t (Explained w steps) same known is =
@@ -251,7 +252,7 @@ value_goes terms tale q rest v most certain tracks known tracked s t at =
           subst (λ x. IsTracked terms rest s (tale s) x) (sym was.2)
           (settled_own terms q rest s most certain (tale s) was.0 v same known (tracked s was.0 was.1)))
       | inr other ↦
-          settled_other terms q rest s (tale s) t (own_block-other s q other) (own_check-other s q other)
+          settled_other terms q rest s (tale s) t (own_chunk-other s q other) (own_check-other s q other)
           (tracked s t (sym (changed_elsewhere (trace_of q) s (λ x. with_value most certain x v) tracks other) ∙ at))
     ]
 
@@ -261,82 +262,82 @@ pub asked_other : (terms : Terms) (qs : List Question) (q : Question) (s : ℕ) 
     IsTracked terms qs s story t → IsTracked terms (qs ++ q ∷ []) s story t
 asked_other terms qs q s story t other is = go t is
   where
-    blocks : blocks_asked s (qs ++ q ∷ []) ≡ blocks_asked s qs
-    blocks = blocks_asked-more s qs q ∙ (ap (λ bs. blocks_asked s qs ++ bs) (own_block-other s q other) ∙ append-nil (blocks_asked s qs))
+    chunks : chunks_asked s (qs ++ q ∷ []) ≡ chunks_asked s qs
+    chunks = chunks_asked-more s qs q ∙ (ap (λ bs. chunks_asked s qs ++ bs) (own_chunk-other s q other) ∙ append-nil (chunks_asked s qs))
 
     checks : checks_asked s (qs ++ q ∷ []) ≡ checks_asked s qs
     checks = checks_asked-more s qs q ∙ (ap (λ cs. checks_asked s qs ++ cs) (own_check-other s q other) ∙ append-nil (checks_asked s qs))
 
     settled : (known : Known) → AreSettled terms story qs s known → AreSettled terms story (qs ++ q ∷ []) s known
-    settled known is = record { on = is.on; all = subst (λ bs. known.parts ++ map reading_of bs ≡ map reading_of story.blocks) (sym blocks) is.all }
+    settled known is = record { on = is.on; all = subst (λ bs. known.parts ++ map reading_of bs ≡ map reading_of story.chunks) (sym chunks) is.all }
 
     go : (t : Track) → IsTracked terms qs s story t → IsTracked terms (qs ++ q ∷ []) s story t
     go (Arriving known) is = (settled known is.0, checks ∙ is.1, is.2)
     go (Arrived n ending k known) is = (settled known is.0, checks ∙ is.1, is.2)
-    go (Checking n ending) is = (subst (λ cs. All (λ a. a ≡ record { parts = map reading_of story.blocks; terms = to_the_end terms }) cs) (sym checks) is.0, is.1)
-    go (Found n ending finding) is = is
+    go (Checking n ending) is = (subst (λ cs. All (λ a. a ≡ record { parts = map reading_of story.chunks; terms = to_the_end terms }) cs) (sym checks) is.0, is.1)
+    go (Found g) is = is
 
--- one more block of a source that hasn't ended is asked about
-pub asked_block : (terms : Terms) (qs : List Question) (s number : ℕ) (block : List ℕ) (story : Story) (pieces : List (List ℕ)) (known : Known) →
+-- one more chunk of a source that hasn't ended is asked about
+pub asked_chunk : (terms : Terms) (qs : List Question) (s number : ℕ) (block : List ℕ) (story : Story) (pieces : List (List ℕ)) (known : Known) →
     IsTracked terms qs s story (Arriving known) →
-    IsTracked terms (qs ++ Parse s number block ∷ []) s (record { pieces = pieces; blocks = story.blocks ++ block ∷ []; ending = None }) (Arriving known)
-asked_block terms qs s number block story pieces known is = (
+    IsTracked terms (qs ++ Parse s number block ∷ []) s (record { pieces = pieces; chunks = story.chunks ++ block ∷ []; ending = None }) (Arriving known)
+asked_chunk terms qs s number block story pieces known is = (
   record {
     on = is.0.on;
     all = ap (λ bs. known.parts ++ map reading_of bs)
-        (blocks_asked-more s qs (Parse s number block) ∙ ap (λ bs. blocks_asked s qs ++ bs) (own_block-same s s number block refl))
-        ∙ (ap (λ rs. known.parts ++ rs) (map-append reading_of (blocks_asked s qs) (block ∷ []))
-        ∙ (sym (append_assoc known.parts (map reading_of (blocks_asked s qs)) (reading_of block ∷ []))
+        (chunks_asked-more s qs (Parse s number block) ∙ ap (λ bs. chunks_asked s qs ++ bs) (own_chunk-same s s number block refl))
+        ∙ (ap (λ rs. known.parts ++ rs) (map-append reading_of (chunks_asked s qs) (block ∷ []))
+        ∙ (sym (append_assoc known.parts (map reading_of (chunks_asked s qs)) (reading_of block ∷ []))
         ∙ (ap (λ rs. rs ++ reading_of block ∷ []) is.0.all
-        ∙ sym (map-append reading_of story.blocks (block ∷ [])))));
+        ∙ sym (map-append reading_of story.chunks (block ∷ [])))));
   },
   checks_asked-more s qs (Parse s number block) ∙ (append-nil (checks_asked s qs) ∙ is.1),
   refl,
 )
 
--- what is settled of the blocks that were asked about decides, and so do all of them
+-- what is settled of the chunks that were asked about decides, and so do all of them
 pub settled_decide : (terms : Terms) (qs : List Question) (s : ℕ) (story : Story) (known : Known) → AreSettled terms story qs s known →
     IsDecisive known.terms known.parts →
-    IsDecisive terms (map reading_of story.blocks)
+    IsDecisive terms (map reading_of story.chunks)
 settled_decide terms qs s story known are is =
     let here : IsDecisive terms known.parts = subst (λ t. IsDecisive t known.parts) are.on is in
-    subst (IsDecisive terms) are.all (more_decide terms known.parts (blocks_asked s qs) here)
+    subst (IsDecisive terms) are.all (more_decide terms known.parts (chunks_asked s qs) here)
 
-no_blocks_left : (readings rs : List Reading) (blocks : List (List ℕ)) (bs : List (List ℕ)) → readings ++ map reading_of bs ≡ map reading_of blocks →
-    length readings ≡ length blocks →
-    readings ≡ map reading_of blocks
-no_blocks_left readings rs blocks [] is same = sym (append-nil readings) ∙ is
-no_blocks_left readings rs blocks (b ∷ bs) is same =
-    let lengths : length (readings ++ reading_of b ∷ map reading_of bs) ≡ length (map reading_of blocks) = ap length is in
-    absurd (omega (arith, lengths, same, length-append readings (reading_of b ∷ map reading_of bs), length-map blocks reading_of))
+no_chunks_left : (readings rs : List Reading) (chunks : List (List ℕ)) (bs : List (List ℕ)) → readings ++ map reading_of bs ≡ map reading_of chunks →
+    length readings ≡ length chunks →
+    readings ≡ map reading_of chunks
+no_chunks_left readings rs chunks [] is same = sym (append-nil readings) ∙ is
+no_chunks_left readings rs chunks (b ∷ bs) is same =
+    let lengths : length (readings ++ reading_of b ∷ map reading_of bs) ≡ length (map reading_of chunks) = ap length is in
+    absurd (omega (arith, lengths, same, length-append readings (reading_of b ∷ map reading_of bs), length-map chunks reading_of))
 
--- the verdict on a whole source is asked for once all its blocks are read
-pub asked_check : (terms : Terms) (qs : List Question) (s bytes : ℕ) (ending : Ending) (blocks : ℕ) (story : Story) (known : Known) → length known.parts ≡ blocks →
-    IsTracked terms qs s story (Arrived bytes ending blocks known) →
+-- the verdict on a whole source is asked for once all its chunks are read
+pub asked_check : (terms : Terms) (qs : List Question) (s bytes : ℕ) (ending : Ending) (chunks : ℕ) (story : Story) (known : Known) → length known.parts ≡ chunks →
+    IsTracked terms qs s story (Arrived bytes ending chunks known) →
     IsTracked terms (qs ++ Check s known.parts terms.rules.limits terms.rules.labels terms.order terms.explain ∷ []) s story (Checking bytes ending)
-asked_check terms qs s bytes ending blocks story known ready is =
+asked_check terms qs s bytes ending chunks story known ready is =
     let readings = known.parts in
-    let all_read = no_blocks_left readings [] story.blocks (blocks_asked s qs) is.0.all (ready ∙ is.2.block_count) in
+    let all_read = no_chunks_left readings [] story.chunks (chunks_asked s qs) is.0.all (ready ∙ is.2.chunk_count) in
     let one : checks_asked s (qs ++ Check s readings terms.rules.limits terms.rules.labels terms.order terms.explain ∷ []) ≡
     record { parts = readings; terms = to_the_end terms } ∷ [] =
     checks_asked-more s qs (Check s readings terms.rules.limits terms.rules.labels terms.order terms.explain)
     ∙ ap₂ (λ xs ys. xs ++ ys) is.1 (own_check-same s s readings terms.rules.limits terms.rules.labels terms.order terms.explain refl) in (
-      subst (λ cs. All (λ a. a ≡ record { parts = map reading_of story.blocks; terms = to_the_end terms }) cs) (sym one)
-          (All-cons (λ a. a ≡ record { parts = map reading_of story.blocks; terms = to_the_end terms }) (record { parts = readings; terms = to_the_end terms }) []
-          (ap (λ rs. record { parts = rs; terms = to_the_end terms }) all_read) (All-nil (λ a. a ≡ record { parts = map reading_of story.blocks; terms = to_the_end terms }))),
-      record { ended = is.2.ended; enough = is.2.enough; byte_count = is.2.byte_count; block_count = refl },
+      subst (λ cs. All (λ a. a ≡ record { parts = map reading_of story.chunks; terms = to_the_end terms }) cs) (sym one)
+          (All-cons (λ a. a ≡ record { parts = map reading_of story.chunks; terms = to_the_end terms }) (record { parts = readings; terms = to_the_end terms }) []
+          (ap (λ rs. record { parts = rs; terms = to_the_end terms }) all_read) (All-nil (λ a. a ≡ record { parts = map reading_of story.chunks; terms = to_the_end terms }))),
+      record { ended = is.2.ended; enough = is.2.enough; byte_count = is.2.byte_count; chunk_count = refl },
     )
 
--- it is known what is found of a whole source once all its blocks are read
-pub found_here : (terms : Terms) (qs : List Question) (s bytes : ℕ) (ending : Ending) (blocks : ℕ) (story : Story) (known : Known) (f : Finding) → length known.parts ≡ blocks →
-    IsTraceFinding known.parts known.terms f → IsTracked terms qs s story (Arrived bytes ending blocks known) →
-    IsTracked terms qs s story (Found bytes ending f)
-found_here terms qs s bytes ending blocks story known f ready found is =
-    let all_read = no_blocks_left known.parts [] story.blocks (blocks_asked s qs) is.0.all (ready ∙ is.2.block_count) in
-    let has : HasArrived terms story bytes ending (length story.blocks) =
-    record { ended = is.2.ended; enough = is.2.enough; byte_count = is.2.byte_count; block_count = refl } in
+-- it is known what is found of a whole source once all its chunks are read
+pub found_here : (terms : Terms) (qs : List Question) (s bytes : ℕ) (ending : Ending) (chunks : ℕ) (story : Story) (known : Known) (f : Finding) → length known.parts ≡ chunks →
+    IsTraceFinding known.parts known.terms f → IsTracked terms qs s story (Arrived bytes ending chunks known) →
+    IsTracked terms qs s story (Found (record { bytes = bytes; ending = ending; finding = f }))
+found_here terms qs s bytes ending chunks story known f ready found is =
+    let all_read = no_chunks_left known.parts [] story.chunks (chunks_asked s qs) is.0.all (ready ∙ is.2.chunk_count) in
+    let has : HasArrived terms story bytes ending (length story.chunks) =
+    record { ended = is.2.ended; enough = is.2.enough; byte_count = is.2.byte_count; chunk_count = refl } in
     let same : ◌≡◌ {A = Asked} (record { parts = known.parts; terms = to_the_end known.terms })
-    (record { parts = map reading_of story.blocks; terms = to_the_end terms }) =
+    (record { parts = map reading_of story.chunks; terms = to_the_end terms }) =
     ap₂ (λ rs (t : Terms). record { parts = rs; terms = to_the_end t }) all_read is.0.on in (
       is.2.ended,
       is.2.byte_count,

@@ -17,7 +17,7 @@ use Rattle.aero_pieces.specs.Values.{IsValueOf}
 reading_code : Coded Reading
 reading_code = hlevel codes
 
--- the question on a block is answered by what the block says
+-- the question on a chunk is answered by what the chunk says
 pub parsed_value : (trace number : ℕ) (bytes : List ℕ) (parsed : Reading) → IsValueOf (Parse trace number bytes) (Parsed parsed) → parsed ≡ reading_of bytes
 parsed_value trace number bytes parsed is = ∥∥₁_elim is (Coded-set reading_code parsed (reading_of bytes)) (λ e. e)
 

@@ -1,15 +1,16 @@
--- What is held of a source whose blocks are being read.
+-- What is held of a source whose chunks are being read.
 use Rattle.std.specs.Prelude.{◌≡◌, ◌↔◌, ℕ, ◌-◌, ◌^◌, min, nat_lt, Bool, true, false, ◌||◌, is_some, List, [], ◌∷◌, ◌++◌, map, length, ⊤}
 use Rattle.std.specs.List.{sum_by}
 use Rattle.aero_grammar.specs.Reading.{Reading, reading_of}
-use Rattle.aero_intake.specs.declared.keeping.Held.{Held}
-use Rattle.aero_intake.specs.declared.keeping.Held.TheVariants.{Kept, Live}
-use Rattle.aero_intake.specs.declared.keeping.Basis.{Basis}
-use Rattle.aero_intake.specs.declared.keeping.Basis.TheVariants.{ByParts, Already}
+use Rattle.aero_intake.specs.declared.held.Held.{Held}
+use Rattle.aero_intake.specs.declared.held.Held.TheVariants.{Kept, Live}
+use Rattle.aero_intake.specs.declared.held.Basis.{Basis}
+use Rattle.aero_intake.specs.declared.held.Basis.TheVariants.{ByParts, Already}
 use Rattle.aero_model.specs.declared.verdict.Finding.{Finding}
-use Rattle.aero_verdict.specs.Finding.{Terms, to_the_end, IsTraceFinding}
+use Rattle.aero_verdict.specs.Finding.{IsTraceFinding}
+use Rattle.aero_model.specs.Terms.{Terms, to_the_end}
 
--- on what terms a source is judged, what its first blocks say, in their order, whether it is live, that is, judged as it comes, and whether its
+-- on what terms a source is judged, what its first chunks say, in their order, whether it is live, that is, judged as it comes, and whether its
 -- verdict is certain then
 pub record Known : Type 0 where
   pub terms : Terms
@@ -21,15 +22,15 @@ pub record Known : Type 0 where
 abbrev pub nothing_read : Terms → Known
 nothing_read terms = record { terms = terms; parts = []; live = false; certain = false }
 
--- how many events the blocks have, but no more than 2^64 - 1
+-- how many events the chunks have, but no more than 2^64 - 1
 abbrev pub event_count : List Reading → ℕ
 event_count parts = min (sum_by (λ r. length r.events) parts) (2 ^ 64 - 1)
 
--- whether blocks that were kept are to be judged: they have more than so many events
+-- whether chunks that were kept are to be judged: they have more than so many events
 abbrev pub turns_live : ℕ → List Reading → Bool
 turns_live most parts = nat_lt most (event_count parts)
 
--- with what the next block says, where so many events are kept at most, and it is then certain or not what the verdict is
+-- with what the next chunk says, where so many events are kept at most, and it is then certain or not what the verdict is
 abbrev pub with_next : ℕ → Bool → Known → Reading → Known
 with_next most certain known part = record {
   terms = known.terms;
@@ -38,11 +39,11 @@ with_next most certain known part = record {
   certain = certain;
 }
 
--- These parts decide: whatever blocks come after them, what is found is the same.
+-- These parts decide: whatever chunks come after them, what is found is the same.
 abbrev pub IsDecisive : Terms → List Reading → Type 0
 IsDecisive terms parts = (more : List (List ℕ)) (f : Finding) → IsTraceFinding (parts ++ map reading_of more) terms f ↔ IsTraceFinding parts terms f
 
--- what the blocks say
+-- what the chunks say
 abbrev pub parts_in : Held → List Reading
 parts_in (Kept parts events) = parts.items
 parts_in (Live live) = live.parts
@@ -57,7 +58,7 @@ abbrev pub certain_in : Held → Bool
 certain_in (Kept parts events) = false
 certain_in (Live live) = is_some live.certain
 
--- The number of events is that of the blocks that are kept.
+-- The number of events is that of the chunks that are kept.
 abbrev pub CountsEvents : Held → Type 0
 CountsEvents (Kept parts events) = events ≡ event_count parts.items
 CountsEvents (Live live) = ⊤

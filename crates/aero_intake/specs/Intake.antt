@@ -37,16 +37,16 @@ abbrev pub fed_all : Cutting → List (List ℕ) → Cutting
 fed_all c [] = c
 fed_all c (piece ∷ pieces) = fed_all (fed c piece) pieces
 
--- the blocks that these pieces give, one after the other, while the text goes on
-abbrev pub blocks_so_far : Cutting → List (List ℕ) → List (List ℕ)
-blocks_so_far c [] = []
-blocks_so_far c (piece ∷ pieces) = option_to_list (block_of c piece) ++ blocks_so_far (fed c piece) pieces
+-- the chunks that these pieces give, one after the other, while the text goes on
+abbrev pub chunks_so_far : Cutting → List (List ℕ) → List (List ℕ)
+chunks_so_far c [] = []
+chunks_so_far c (piece ∷ pieces) = option_to_list (block_of c piece) ++ chunks_so_far (fed c piece) pieces
 
--- These pieces were cut, one after the other, and gave these blocks, and what is held came after them. Where some were passed over, these are the
--- blocks that they would have given.
-pub record IsTaken (i : Taking) (pieces blocks : List (List ℕ)) : Type 0 where
+-- These pieces were cut, one after the other, and gave these chunks, and what is held came after them. Where some were passed over, these are the
+-- chunks that they would have given.
+pub record IsTaken (i : Taking) (pieces chunks : List (List ℕ)) : Type 0 where
   pub cutting : i.passed ≡ false → i.cutting ≡ fed_all nothing_yet pieces
-  pub given : blocks ≡ blocks_so_far nothing_yet pieces
+  pub given : chunks ≡ chunks_so_far nothing_yet pieces
   pub count : i.count ≡ length (concat pieces ++ i.held)
 
 -- These bytes came from the reader, and no read failed or found the end.

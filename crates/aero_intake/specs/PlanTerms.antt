@@ -3,7 +3,7 @@ use Rattle.std.specs.Prelude.{ℕ, ◌+◌, ◌==◌, false, if◌then◌else◌
 use Rattle.aero_intake.specs.declared.plan.Keeping.{Keeping}
 use Rattle.aero_intake.specs.declared.plan.Plan.{Plan}
 use Rattle.aero_report.specs.Options.{Note, Options}
-use Rattle.aero_verdict.specs.Finding.{Terms}
+use Rattle.aero_model.specs.Terms.{Terms}
 
 -- on which the sources are judged
 abbrev pub terms_of : Plan → Terms
@@ -11,7 +11,7 @@ terms_of plan = plan.terms
 
 -- the same, as the summary of a report tells it, with the labels with which no block begins, and the notes on sources
 abbrev pub options_with : Terms → (unused : List (List ℕ)) → (notes : List Note) → Options
-options_with terms unused notes = record { limits = terms.rules.limits; labels = terms.rules.labels; order = terms.order; explain = terms.explain; stop = terms.stop; end = false; unused = unused; notes = notes }
+options_with terms unused notes = record { terms = terms; end = false; unused = unused; notes = notes }
 
 -- the same, where no such label and no note is told
 abbrev pub options_in : Terms → Options

@@ -34,22 +34,22 @@ IsDecided track = ⊥
 -- whether the verdict on a source that is live is certain before its end
 abbrev pub certain_of : Track → Bool
 certain_of (Arriving known) = known.certain
-certain_of (Arrived bytes ending blocks known) = known.certain
+certain_of (Arrived bytes ending chunks known) = known.certain
 certain_of track = false
 
 -- the track with one more part of its source read, of which so many events are kept at most
 abbrev pub with_part : ℕ → Bool → Track → Reading → Track
 with_part most certain (Arriving known) r = Arriving (with_next most certain known r)
-with_part most certain (Arrived bytes ending blocks known) r = Arrived bytes ending blocks (with_next most certain known r)
+with_part most certain (Arrived bytes ending chunks known) r = Arrived bytes ending chunks (with_next most certain known r)
 with_part most certain (Checking bytes ending) r = Checking bytes ending
-with_part most certain (Found bytes ending finding) r = Found bytes ending finding
+with_part most certain (Found found) r = Found found
 
 -- the track with what is found of its source
 abbrev pub with_finding : Track → Finding → Track
 with_finding (Arriving known) f = Arriving known
-with_finding (Arrived bytes ending blocks known) f = Arrived bytes ending blocks known
-with_finding (Checking bytes ending) f = Found bytes ending f
-with_finding (Found bytes ending finding) f = Found bytes ending finding
+with_finding (Arrived bytes ending chunks known) f = Arrived bytes ending chunks known
+with_finding (Checking bytes ending) f = Found (record { bytes = bytes; ending = ending; finding = f })
+with_finding (Found found) f = Found found
 
 abbrev pub with_value : ℕ → Bool → Track → Value → Track
 with_value most certain track (Parsed r) = with_part most certain track r
@@ -60,24 +60,24 @@ with_value most certain track (Opened verdict blocks) = with_finding track (find
 
 -- the track of a source that came whole, or is read no further
 abbrev pub with_arrival : Track → ℕ → Ending → ℕ → Track
-with_arrival (Arriving known) bytes ending blocks = Arrived bytes ending blocks known
-with_arrival track bytes ending blocks = track
+with_arrival (Arriving known) bytes ending chunks = Arrived bytes ending chunks known
+with_arrival track bytes ending chunks = track
 
--- all blocks of the source that were asked about were read, or it is found what is to be said of it
+-- all chunks of the source that were asked about were read, or it is found what is to be said of it
 abbrev pub IsReady : Track → Type 0
 IsReady (Arriving known) = ⊥
-IsReady (Arrived bytes ending blocks known) = length known.parts ≡ blocks
+IsReady (Arrived bytes ending chunks known) = length known.parts ≡ chunks
 IsReady (Checking bytes ending) = ⊥
-IsReady (Found bytes ending finding) = ⊤
+IsReady (Found found) = ⊤
 
--- what the blocks of a source that has come say is taken from its track
+-- what the chunks of a source that has come say is taken from its track
 abbrev pub TakesKnown : Track → Track → Option Known → Type 0
-TakesKnown (Arrived bytes ending blocks known) new given = (given ≡ Some known) × (new ≡ Checking bytes ending)
+TakesKnown (Arrived bytes ending chunks known) new given = (given ≡ Some known) × (new ≡ Checking bytes ending)
 TakesKnown old new given = (given ≡ None) × (new ≡ old)
 
 -- the verdict is asked for where a source that has come waits for it, unless the source was judged as it came: then it is known what is found of it
 abbrev pub GivesParts : Track → Track → Option (List Reading) → Type 0
-GivesParts (Arrived bytes ending blocks known) new given =
+GivesParts (Arrived bytes ending chunks known) new given =
     ((given ≡ Some known.parts) × (new ≡ Checking bytes ending))
-    ⊎ ((given ≡ None) × (finding : Finding) × IsTraceFinding known.parts known.terms finding × (new ≡ Found bytes ending finding))
+    ⊎ ((given ≡ None) × (finding : Finding) × IsTraceFinding known.parts known.terms finding × (new ≡ Found (record { bytes = bytes; ending = ending; finding = finding })))
 GivesParts old new given = (given ≡ None) × (new ≡ old)

@@ -12,8 +12,8 @@ use std::marker::Model;
 use std::{io, mem};
 
 /// How many bytes are gathered before they are cut, unless the source ends: so many by several reads,
-/// however short. A question is asked about each block that comes of it, and at most 64 are open: with
-/// blocks of 64 KiB these are soon behind one verdict, and further workers have nothing to do.
+/// however short. A question is asked about each chunk that comes of it, and at most 64 are open: with
+/// chunks of 64 KiB these are soon behind one verdict, and further workers have nothing to do.
 const BLOCK_BYTES: usize = 1 << 18;
 
 /// What one step of reading a source gave.
@@ -112,7 +112,8 @@ impl Intake {
         requires not_full { length self.old.held < 2 ^ 18 }
         requires limited { limit ≤ 2 ^ 46 }
         requires within { self.old.count ≤ limit + 1 }
-        ensures { Takes (R.sight reader.old) (R.sight reader.new) piece limit self.old self.new result }
+        ensures { Takes (R.sight reader.old) (R.sight reader.new) piece limit self.old self.new
+            result }
     {
         let left = limit + 1 - self.count;
         if left == 0 {
@@ -139,7 +140,8 @@ impl Intake {
     /// `AllocError` where memory is refused. Nothing has changed then.
     pub fn cut(&mut self) -> Result<Option<Block>, AllocError>
         ensures block { IfOk result (λ block. block ≡ block_of self.old.cutting self.old.held) }
-        ensures few { IfOk result (λ block. IfSome block (λ bytes. length bytes ≤ most_line_bytes + 2 ^ 20)) }
+        ensures few { IfOk result (λ block.
+            IfSome block (λ bytes. length bytes ≤ most_line_bytes + 2 ^ 20)) }
         ensures after { OnOk result (self.new ≡ with_cut self.old) }
         ensures refused { OnErr result (self.new ≡ self.old) }
     {
@@ -148,7 +150,7 @@ impl Intake {
         Ok(block)
     }
 
-    /// Passes over what is held: it counts as having come, and is in no block. What `cut` and `finish` give of the
+    /// Passes over what is held: it counts as having come, and is in no chunk. What `cut` and `finish` give of the
     /// source from then on isn't what follows in it.
     pub fn pass_over(&mut self)
         ensures { self.new ≡ with_passing self.old }

@@ -2,12 +2,12 @@
 //!
 //! A `Plan` says in what pieces the sources of a run are read, under which limits, and by how many
 //! workers. An `Intake` takes the pieces of one `Source` after the other, holds them until 262,144 bytes
-//! have come, cuts what it holds into blocks of whole lines, and tells how a source ended: whole, by a
+//! have come, cuts what it holds into chunks of whole lines, and tells how a source ended: whole, by a
 //! read that failed, or by one byte more than the limit allows.
-//! A `Track` keeps what its blocks say as they are read, until it is found what is to be said of it.
-//! Who reads the blocks, and in what order, is for the crates above.
+//! A `Track` keeps what its chunks say as they are read, until it is found what is to be said of it.
+//! Who reads the chunks, and in what order, is for the crates above.
 //!
-//! `laws` says that the blocks of a source have the verdict of its text, however its bytes came.
+//! `laws` says that the chunks of a source have the verdict of its text, however its bytes came.
 //!
 //! # What is proved
 //!
@@ -19,33 +19,32 @@
 //! - A read of a source is one step. A source is broken exactly where a read failed, and whole exactly where one found
 //!   the end; then nothing is left of bytes that the reader's type tells. It is too large after one byte more than the
 //!   limit: `Intake::take`. What the reader says of itself goes on with the bytes that came: `trail`.
-//! - What came is held in the order in which it came, until it is cut. Then its block is the cutter's: `Intake::take`,
+//! - What came is held in the order in which it came, until it is cut. Then its chunk is the cutter's: `Intake::take`,
 //!   `cut`, `block`, `after`; `finish`, `last`.
 //! - A cut that is refused changes nothing: `cut`, `refused`. What is passed over counts as having come, and that some
-//!   was is kept: `pass_over`, `has_passed`. After the last block another source may be read, of which nothing has
+//!   was is kept: `pass_over`, `has_passed`. After the last chunk another source may be read, of which nothing has
 //!   come: `finish`, `fresh`.
 //! - A `Live` has exactly the parts that came, in order, on the terms that it began with: `Live::new`, `feed`, `parts`,
 //!   `terms`; `len`. `finish` gives what is found of exactly them, on these terms. So does its `Judge`: `new`, `feed`,
 //!   `feed_rest`, `finish`. After a `feed` that is done either a verdict is certain, or nothing is wrong yet, but for one
 //!   line too many at most: `Judge::feed`, `going_on`; `is_certain`, `told`, `certain`.
-//! - With each block that comes a `Live` judges two: one waits less than before, if one did: `Live::new`, `feed`, `waiting`.
+//! - With each chunk that comes a `Live` judges two: one waits less than before, if one did: `Live::new`, `feed`, `waiting`.
 //!   After `catch_up` none waits.
-//! - Kept or judged as they came, the parts of a source are those that its blocks gave, on the terms that it began
-//!   with: `Knowledge::new`, `add`, `len`. With the block that makes them more than so many events the source turns
+//! - Kept or judged as they came, the parts of a source are those that its chunks gave, on the terms that it began
+//!   with: `Knowledge::new`, `add`, `len`. With the chunk that makes them more than so many events the source turns
 //!   live, and it stays so: `Knowledge::add`, `take_value`.
 //! - A whole source is judged by its parts themselves, or has the finding on them, on its own terms:
 //!   `Knowledge::into_basis`.
-//! - Where it is told that the first blocks of a source decide, what is found of it is the same whatever blocks come
+//! - Where it is told that the first chunks of a source decide, what is found of it is the same whatever chunks come
 //!   after them. It is told exactly after a malformed line, after a line too many, and where the source is live and
 //!   the verdict of its `Live` is certain: `Knowledge::decide`, `told`, `faulty`, `decisive`; `is_decided`, `told`;
 //!   `Live::is_certain`.
-//! - However its bytes came, the blocks of a source have the verdicts, orders and events of telling cycles of its text.
-//!   After a malformed line, or one too many, later blocks don't count: `laws`.
+//! - However its bytes came, the chunks of a source have the verdicts, orders and events of telling cycles of its text.
+//!   After a malformed line, or one too many, later chunks don't count: `laws`.
 #![tactic(auto)]
 
+pub mod held;
 pub mod intake;
-pub mod judge;
-pub mod keeping;
 pub mod laws;
 pub mod live;
 pub mod plan;

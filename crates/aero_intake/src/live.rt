@@ -1,43 +1,44 @@
 //! A source that is judged as it comes.
 ghost use Rattle.std.specs.Prelude.{◌≡◌, ◌++◌, ◌∷◌, [], ◌-◌, length, is_some, IfOk, IfSome, OnOk};
 ghost use Rattle.aero_verdict.specs.Fed.{IsCertain};
-ghost use Rattle.aero_verdict.specs.Finding.{IsTraceFinding, to_the_end};
-ghost use Rattle.aero_intake.specs.Lives.{watched_by};
+ghost use Rattle.aero_verdict.specs.Finding.{IsTraceFinding};
+ghost use Rattle.aero_model.specs.Terms.{to_the_end};
+ghost use Rattle.aero_verdict.specs.Judging.{judging_of};
 
-use crate::judge::Judge;
 use aero_grammar::Parsed;
-use aero_model::{Except, Finding};
-use aero_verdict::Terms;
+use aero_model::{Except, Finding, Terms};
+use aero_verdict::Judge;
 use std::alloc::{AllocError, Global};
 use std::collections::VecDeque;
 use std::marker::Model;
 use std::mem;
 
-/// What judges the blocks of a source as they come. What was kept of it before waits, and for each block that comes
-/// two are judged, the first ones first, and let go: so no block holds the others up for long.
+/// What judges the chunks of a source as they come. What was kept of it before waits, and for each chunk that comes
+/// two are judged, the first ones first, and let go: so no chunk holds the others up for long.
 #[derive(Drop)]
 pub struct Live {
-    judge: Judge,
-    // The blocks that came and aren't judged yet.
+    judge: Box<Judge, Global>,
+    // The chunks that came and aren't judged yet.
     waiting: VecDeque<Parsed>,
     count: u64,
 }
 
 impl Model for Live {
-    ghost use Rattle.aero_intake.specs.Lives.{Watched, watched_by};
+    ghost use Rattle.aero_intake.specs.Lives.{Watched};
+    ghost use Rattle.aero_verdict.specs.Judging.{judging_of};
 
     ghost Value = { Watched };
 
     ghost use Rattle.std.specs.Prelude.{◌≡◌, ◌++◌, length};
 
     ghost view = { λ l. record {
-      parts = (watched_by l.judge).parts ++ l.waiting.items;
+      parts = (judging_of l.judge.value).parts ++ l.waiting.items;
       waiting = length l.waiting.items;
-      terms = (watched_by l.judge).terms;
-      certain = (watched_by l.judge).certain;
+      terms = (judging_of l.judge.value).terms;
+      certain = (judging_of l.judge.value).certain;
     } };
 
-    ghost invariant = { λ l. l.count ≡ length ((watched_by l.judge).parts ++ l.waiting.items) };
+    ghost invariant = { λ l. l.count ≡ length ((judging_of l.judge.value).parts ++ l.waiting.items) };
 }
 
 impl Live {
@@ -49,19 +50,13 @@ impl Live {
     {
         let count = kept.len() as u64;
         Ok(Live {
-            judge: Judge::new(
-                alloc,
-                terms.limits(),
-                terms.except(),
-                terms.order(),
-                terms.explain(),
-            )?,
+            judge: Box::new(alloc, Judge::new(alloc, terms))?,
             waiting: VecDeque::from_vec(kept),
             count,
         })
     }
 
-    /// Takes what the next block says, and judges the next two that wait, with the same labels as at first: one waits
+    /// Takes what the next chunk says, and judges the next two that wait, with the same labels as at first: one waits
     /// less than before, if one did. An `AllocError` says that memory was refused.
     pub fn feed(&mut self, part: Parsed, except: &Except) -> Result<(), AllocError>
         requires { except.now ≡ self.old.terms.rules.labels }
@@ -78,7 +73,7 @@ impl Live {
         judge_next(&mut self.judge, &mut self.waiting, except)
     }
 
-    /// Judges all blocks that wait, with the same labels as at first. Where memory is refused, `finish` says so.
+    /// Judges all chunks that wait, with the same labels as at first. Where memory is refused, `finish` says so.
     pub fn catch_up(&mut self, alloc: Global, except: &Except)
         requires { except.now ≡ self.old.terms.rules.labels }
         ensures parts { self.new.parts ≡ self.old.parts }
@@ -89,14 +84,14 @@ impl Live {
         judge_rest(&mut self.judge, waiting, except);
     }
 
-    /// How many blocks have come.
+    /// How many chunks have come.
     pub fn len(&self) -> u64
         ensures { result ≡ length self.now.parts }
     {
         self.count
     }
 
-    /// Whether the verdict is certain by what was judged so far, whatever blocks come.
+    /// Whether the verdict is certain by what was judged so far, whatever chunks come.
     pub fn is_certain(&self) -> bool
         ensures told { result ≡ is_some self.now.certain }
         ensures certain { IfSome self.now.certain (IsCertain self.now.parts self.now.terms.rules) }
@@ -114,7 +109,7 @@ impl Live {
             waiting,
             count: _,
         } = self;
-        let mut judge = judge;
+        let mut judge = Box::into_inner(judge);
         judge_rest(&mut judge, waiting, except);
         judge.finish()
     }
@@ -122,27 +117,29 @@ impl Live {
 
 // Judges all that wait. Where memory is refused the judge says so at its end.
 fn judge_rest(judge: &mut Judge, waiting: VecDeque<Parsed>, except: &Except)
-    requires { except.now ≡ (watched_by judge.old).terms.rules.labels }
-    ensures parts { (watched_by judge.new).parts ≡ (watched_by judge.old).parts ++ waiting.items }
-    ensures terms { (watched_by judge.new).terms ≡ (watched_by judge.old).terms }
+    requires { except.now ≡ (judging_of judge.old).terms.rules.labels }
+    ensures parts { (judging_of judge.new).parts ≡ (judging_of judge.old).parts ++ waiting.items }
+    ensures terms { (judging_of judge.new).terms ≡ (judging_of judge.old).terms }
 {
     let rest = waiting.into_vec();
-    judge.feed_rest(&rest, except);
+    judge.feed_all(&rest, except);
 }
 
-// Judges the first block that waits, if one does, and lets it go.
+// Judges the first chunk that waits, if one does, and lets it go.
 fn judge_next(
     judge: &mut Judge,
     waiting: &mut VecDeque<Parsed>,
     except: &Except,
 ) -> Result<(), AllocError>
-    requires { except.now ≡ (watched_by judge.old).terms.rules.labels }
-    ensures parts { (watched_by judge.new).parts ++ waiting.new.items ≡ (watched_by judge.old).parts ++ waiting.old.items }
+    requires { except.now ≡ (judging_of judge.old).terms.rules.labels }
+    ensures parts { (judging_of judge.new).parts ++ waiting.new.items ≡
+        (judging_of judge.old).parts ++ waiting.old.items }
     ensures waiting { length waiting.new.items ≡ length waiting.old.items - 1 }
-    ensures terms { (watched_by judge.new).terms ≡ (watched_by judge.old).terms }
+    ensures terms { (judging_of judge.new).terms ≡ (judging_of judge.old).terms }
 {
     let Some(part) = waiting.pop_front() else {
         return Ok(());
     };
-    judge.feed(&part, except)
+    judge.feed(&part, except)?;
+    Ok(())
 }

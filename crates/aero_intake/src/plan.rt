@@ -1,11 +1,10 @@
 //! How a run is made.
 ghost use Rattle.std.specs.Prelude.{◌≡◌, ◌<◌, ◌≤◌, ◌^◌, if◌then◌else◌};
 
-use aero_model::{Limits, Name, SharedExcept};
+use aero_model::{Limits, Name, SharedExcept, Terms};
 use aero_report::{Form, Note, Options};
-use aero_verdict::Terms;
 
-/// How many events of a source are kept at most until it is judged. Once more have come its blocks are judged as they
+/// How many events of a source are kept at most until it is judged. Once more have come its chunks are judged as they
 /// come, and let go. It changes how much memory a run takes, who judges a source, and when, and not what is found.
 #[derive(Clone, Copy, Debug, PartialEq, Eq)]
 pub struct Keeping {
@@ -58,7 +57,7 @@ impl Plan {
     ghost use Rattle.aero_intake.specs.PlanTerms.{options_in, options_with, terms_of};
     ghost use Rattle.aero_report.specs.Asked.{note_of, options_of};
     ghost use Rattle.aero_report.specs.declared.form.Form.TheVariants.{Text};
-    ghost use Rattle.aero_verdict.specs.Finding.{asking};
+    ghost use Rattle.aero_model.specs.Terms.{asking};
 
     /// This plan, or `None` where a number is 0, there are more than 16 workers, or a piece is of
     /// more than 1,048,576 bytes. Of a source 1,048,576 events are kept at most, and 65,536 of the last one. Nothing
@@ -95,11 +94,7 @@ impl Plan {
 
     /// The same plan, by which so much is kept of a source.
     pub fn with_keeping(self, keeping: Keeping) -> Plan
-        ensures workers { result.workers ≡ self.workers }
-        ensures piece { result.piece ≡ self.piece }
-        ensures terms { result.terms ≡ self.terms }
-        ensures keeping { result.keeping ≡ keeping }
-        ensures form { result.form ≡ self.form }
+        ensures { result ≡ record self { keeping = keeping } }
     {
         let mut plan = self;
         plan.keeping = keeping;
@@ -108,11 +103,7 @@ impl Plan {
 
     /// The same plan, by which what is found is to be explained.
     pub fn explaining(self) -> Plan
-        ensures workers { result.workers ≡ self.workers }
-        ensures piece { result.piece ≡ self.piece }
-        ensures terms { result.terms ≡ record self.terms { explain = true } }
-        ensures keeping { result.keeping ≡ self.keeping }
-        ensures form { result.form ≡ self.form }
+        ensures { result ≡ record self { terms = record self.terms { explain = true } } }
     {
         let mut plan = self;
         plan.terms.ask_for_explanation();
@@ -122,12 +113,11 @@ impl Plan {
     /// The same plan, by which each source is read no further once its verdict is certain. So that this is known early,
     /// nothing is kept of a source: it is judged as it comes.
     pub fn stopping(self) -> Plan
-        ensures workers { result.workers ≡ self.workers }
-        ensures piece { result.piece ≡ self.piece }
-        ensures terms { result.terms ≡ record self.terms { stop = true } }
-        ensures events { result.keeping.events ≡ 0 }
-        ensures last_events { result.keeping.last_events ≡ 0 }
-        ensures form { result.form ≡ self.form }
+        ensures { result ≡ record self {
+          terms = record self.terms { stop = true };
+          keeping = record
+              { events = 0; last_events = 0 };
+        } }
     {
         let mut plan = self;
         plan.terms.ask_to_stop();
@@ -139,11 +129,7 @@ impl Plan {
 
     /// The same plan, by which the report has this form.
     pub fn with_form(self, form: Form) -> Plan
-        ensures workers { result.workers ≡ self.workers }
-        ensures piece { result.piece ≡ self.piece }
-        ensures terms { result.terms ≡ self.terms }
-        ensures keeping { result.keeping ≡ self.keeping }
-        ensures form { result.form ≡ form }
+        ensures { result ≡ record self { form = form } }
     {
         let mut plan = self;
         plan.form = form;
@@ -160,14 +146,11 @@ impl Plan {
 
     /// The same, with the labels with which no block begins, and the notes on sources.
     pub fn options_with<'a>(&'a self, unused: &'a [&'a Name], notes: &'a [Note]) -> Options<'a>
-        ensures { options_of result ≡ options_with (terms_of self.now) (map (λ label. label.now) unused.now) (map note_of notes.now) }
+        ensures { options_of result ≡ options_with (terms_of self.now)
+            (map (λ label. label.now) unused.now) (map note_of notes.now) }
     {
         Options {
-            limits: self.terms.limits(),
-            except: self.terms.except(),
-            order: self.terms.order(),
-            explain: self.terms.explain(),
-            stop: self.terms.stop(),
+            terms: &self.terms,
             end: false,
             unused,
             notes,

@@ -19,8 +19,10 @@ pub trait Followed {
     fn read(&mut self, buf: &mut [u8]) -> io::Result<usize>
         ensures bound { ReadsAtMost result buf.new }
         ensures bytes { ReadConsumes (sight self.old).bytes (sight self.new).bytes result buf.new }
-        ensures faults { (sight self.new).faults ≡ (sight self.old).faults + (if is_err result then 1 else 0) }
-        ensures ends { (sight self.new).ends ≡ (sight self.old).ends + (if moves_nothing result buf.new then 1 else 0) }
+        ensures faults { (sight self.new).faults ≡
+            (sight self.old).faults + (if is_err result then 1 else 0) }
+        ensures ends { (sight self.new).ends ≡
+            (sight self.old).ends + (if moves_nothing result buf.new then 1 else 0) }
         ensures trail { Trails (sight self.old).trail (sight self.new).trail (gained result buf.new) };
 }
 

@@ -4,16 +4,15 @@ ghost use Rattle.aero_intake.specs.Held.{nothing_read, with_next, IsDecisive, Is
 ghost use Rattle.aero_intake.specs.Tracks.{with_part, with_finding, with_value, with_arrival, certain_of, decides, is_faulty, is_told, IsDecided, IsReady};
 ghost use Rattle.aero_intake.specs.Tracks.{TakesKnown, GivesParts};
 
-use crate::keeping::{Basis, Held, add_to, basis_of, held_count, is_certain, nothing_held};
+use crate::held::{Basis, Held, add_to, basis_of, held_count, is_certain, nothing_held};
 use aero_grammar::Parsed;
-use aero_model::{Ending, Finding};
+use aero_model::{Ending, Finding, Found, Terms};
 use aero_pieces::{Parts, Value};
-use aero_verdict::Terms;
 use std::alloc::{AllocError, Global};
 use std::marker::Model;
 use std::mem;
 
-/// On what terms a source is judged, and what its first blocks say, in their order.
+/// On what terms a source is judged, and what its first chunks say, in their order.
 #[derive(Drop)]
 pub struct Knowledge {
     terms: Terms,
@@ -56,7 +55,7 @@ impl Knowledge {
         }
     }
 
-    /// Adds what the next block says. At most so many events are kept: once more have come the source is live.
+    /// Adds what the next chunk says. At most so many events are kept: once more have come the source is live.
     /// An `AllocError` says that memory was refused.
     pub fn add(&mut self, alloc: Global, part: Parsed, most: u64) -> Result<(), AllocError>
         ensures { OnOk result (self.new ≡ with_next most self.new.certain self.old part) }
@@ -76,10 +75,11 @@ impl Knowledge {
         Ok(())
     }
 
-    /// Whether it is known that they decide, whatever blocks come after them: a line of them is malformed, or they
+    /// Whether it is known that they decide, whatever chunks come after them: a line of them is malformed, or they
     /// have more lines than may be, or they are judged as they come and the verdict is certain.
     pub fn decide(&self) -> bool
-        ensures told { result ≡ decides self.now.terms.rules.limits self.now.parts || self.now.certain }
+        ensures told { result ≡ decides self.now.terms.rules.limits self.now.parts ||
+            self.now.certain }
         ensures faulty { decides self.now.terms.rules.limits self.now.parts ≡ true → IsTrue result }
         ensures decisive { IsTrue result → IsDecisive self.now.terms self.now.parts }
     {
@@ -111,26 +111,22 @@ impl Knowledge {
 /// How far a source is.
 #[derive(Drop)]
 pub enum Track {
-    /// Its bytes are coming, or are still to come. This is what its first blocks say.
+    /// Its bytes are coming, or are still to come. This is what its first chunks say.
     Arriving(Knowledge),
-    /// It is whole, or is read no further: so many bytes came, they ended so, and so many of its blocks were asked about.
+    /// It is whole, or is read no further: so many bytes came, they ended so, and so many of its chunks were asked about.
     Arrived {
         bytes: u64,
         ending: Ending,
-        blocks: u64,
+        chunks: u64,
         known: Knowledge,
     },
-    /// The blocks that were asked about were read, and the verdict is asked for. So many bytes came, and they ended so.
+    /// The chunks that were asked about were read, and the verdict is asked for. So many bytes came, and they ended so.
     Checking {
         bytes: u64,
         ending: Ending,
     },
-    /// So many bytes came, they ended so, and this is said of them.
-    Found {
-        bytes: u64,
-        ending: Ending,
-        finding: Finding,
-    },
+    /// This was found.
+    Found(Found),
 }
 
 /// Gives a value to the track of its source, of which so many events are kept at most. What is of no use any more is
@@ -170,7 +166,7 @@ fn take_part(track: &mut Track, alloc: Global, part: Parsed, most: u64) -> Resul
     match track {
         Track::Arriving(known) => known.add(alloc, part, most),
         Track::Arrived { known, .. } => known.add(alloc, part, most),
-        Track::Checking { .. } | Track::Found { .. } => Ok(()),
+        Track::Checking { .. } | Track::Found(_) => Ok(()),
     }
 }
 
@@ -181,24 +177,24 @@ fn take_finding(track: &mut Track, finding: Finding)
         Track::Checking { bytes, ending } => (*bytes, *ending),
         _ => return,
     };
-    *track = Track::Found {
+    *track = Track::Found(Found {
         bytes,
         ending,
         finding,
-    };
+    });
 }
 
 /// Notes that a source has come, whole or as far as it is read: that so many bytes came, that they ended so, and that so
-/// many of its blocks were asked about.
-pub fn arrive(track: &mut Track, bytes: u64, ending: Ending, blocks: u64)
-    ensures { track.new ≡ with_arrival track.old bytes ending blocks }
+/// many of its chunks were asked about.
+pub fn arrive(track: &mut Track, bytes: u64, ending: Ending, chunks: u64)
+    ensures { track.new ≡ with_arrival track.old bytes ending chunks }
 {
     let old = mem::replace(track, Track::Checking { bytes, ending });
     *track = match old {
         Track::Arriving(known) => Track::Arrived {
             bytes,
             ending,
-            blocks,
+            chunks,
             known,
         },
         other => other,
@@ -210,14 +206,14 @@ pub fn is_ready(track: &Track) -> bool
     ensures { IsTrue result ↔ IsReady track.now }
 {
     match track {
-        Track::Arrived { blocks, known, .. } => known.len() == *blocks,
-        Track::Found { .. } => true,
+        Track::Arrived { chunks, known, .. } => known.len() == *chunks,
+        Track::Found(_) => true,
         _ => false,
     }
 }
 
 /// Whether it is known that what was read of a source that is still coming decides what is to be said of it, unless
-/// its bytes end otherwise than whole: no later block of it counts.
+/// its bytes end otherwise than whole: no later chunk of it counts.
 pub fn is_decided(track: &Track) -> bool
     ensures told { result ≡ is_told track.now }
     ensures faulty { is_faulty track.now ≡ true → IsTrue result }
@@ -225,11 +221,11 @@ pub fn is_decided(track: &Track) -> bool
 {
     match track {
         Track::Arriving(known) => known.decide(),
-        Track::Arrived { .. } | Track::Checking { .. } | Track::Found { .. } => false,
+        Track::Arrived { .. } | Track::Checking { .. } | Track::Found(_) => false,
     }
 }
 
-/// Takes what the blocks of a source that has come say that were asked about, where that is what its verdict
+/// Takes what the chunks of a source that has come say that were asked about, where that is what its verdict
 /// is to be asked for. Where the source was judged as they came, it is noted what is found of it. An `AllocError`
 /// says that memory was refused.
 pub fn take_parts(track: &mut Track) -> Result<Option<Parts>, AllocError>

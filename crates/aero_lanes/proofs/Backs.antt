@@ -16,7 +16,7 @@ use Rattle.aero_lanes.specs.declared.seat.Seat.{Seat}
 use Rattle.aero_lanes.specs.declared.seat.Seat.TheVariants.{Waiting, Running, Done, Empty}
 use Rattle.aero_lanes.specs.Seats.{FitsSeat, AreSeated, AreBack, BackSoFar, GivesBack, IsBack, IsFoundBy}
 use Rattle.aero_lanes.specs.Tellings.{StopsSo, IsWrittenSo}
-use Rattle.aero_verdict.specs.Finding.{Terms}
+use Rattle.aero_model.specs.Terms.{Terms}
 
 -- what a seat gives back has the source's name, and its reader was made for the same
 back_named : {R : Type 0} (known : R → Sight) (terms : Terms) (before : SourceOf R) (seat : Seat R) (source : SourceOf R) → FitsSeat known terms before seat →

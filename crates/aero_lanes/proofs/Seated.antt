@@ -8,7 +8,7 @@ use Rattle.aero_intake.specs.declared.source.SourceOf.{SourceOf}
 use Rattle.aero_lanes.specs.declared.seat.Seat.{Seat}
 use Rattle.aero_lanes.specs.declared.seat.Seat.TheVariants.{Waiting, Done}
 use Rattle.aero_lanes.specs.Seats.{FitsSeat, StaysDone, AreSeated, GoOn, waiting}
-use Rattle.aero_verdict.specs.Finding.{Terms}
+use Rattle.aero_model.specs.Terms.{Terms}
 
 the_some : {A : Type 0} (x y : A) → Some x ≡ Some y → x ≡ y
 the_some x y p = cc p

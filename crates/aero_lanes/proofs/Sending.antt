@@ -10,9 +10,9 @@ use Rattle.aero_model.specs.contracts.verdict.Cycle as Cycle
 use Rattle.aero_model.specs.contracts.verdict.CycleStep as CycleStep
 use Rattle.aero_model.specs.contracts.verdict.Ending as Ending
 use Rattle.aero_model.specs.contracts.verdict.Finding as Finding
+use Rattle.aero_model.specs.contracts.verdict.Found as Found
 use Rattle.aero_model.specs.contracts.verdict.Step as Step
 use Rattle.aero_model.specs.contracts.verdict.Verdict as Verdict
-use Rattle.aero_batch.specs.contracts.find.Judged as Judged
 use Rattle.aero_intake.specs.contracts.source.SourceOf as SourceOf
 use Rattle.aero_lanes.specs.contracts.lane.Ended as Ended
 
@@ -34,14 +34,14 @@ ending_send = search (sendable, crosses) depth 40
 finding_send : IsSend (Enum (enums.shape Finding.the_type))
 finding_send = enum_send (enums.shape Finding.the_type) (search (sendable, crosses, verdict_send, step_send, cycle_send) depth 60 fits 6000)
 
-pub judged_send : IsSend (Struct (structs.shape Judged.the_type))
-judged_send = struct_send (structs.shape Judged.the_type) (search (sendable, crosses, ending_send, finding_send) depth 40)
+pub found_send : IsSend (Struct (structs.shape Found.the_type))
+found_send = struct_send (structs.shape Found.the_type) (search (sendable, crosses, ending_send, finding_send) depth 40)
 
 source_send : (R : RattleType) → IsSend R → IsSend (Struct (structs.shape (SourceOf.the_type R)))
 source_send R send = struct_send (structs.shape (SourceOf.the_type R)) (search (sendable, crosses) depth 40, (search (send, sendable), (search (sendable, crosses) depth 40, tt)))
 
 pub ended_fields : (R : RattleType) → IsSend R → IsSend (Struct (structs.shape (Ended.the_type R)))
-ended_fields R send = struct_send (structs.shape (Ended.the_type R)) (source_send R send, (search (sendable, crosses, judged_send) depth 40 fits 4000, tt))
+ended_fields R send = struct_send (structs.shape (Ended.the_type R)) (source_send R send, (search (sendable, crosses, found_send) depth 40 fits 4000, tt))
 
 pub ended_send : (R : RattleType) → IsSend R → IsSend (structs.row (Ended.the_type R))
 ended_send R send = recorded_send (Struct (structs.shape (Ended.the_type R))) (Ended.the_type R).D (Ended.the_type R).to (Ended.the_type R).to_one (ended_fields R send)

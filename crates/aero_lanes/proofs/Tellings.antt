@@ -5,10 +5,9 @@ use Rattle.std.specs.Prelude.{IfOk, IfErr, IfSome, OnOk, vec_len}
 use Rattle.std.proofs.KnownBytes.{Appends-nil, Appends-trans}
 use Rattle.std.proofs.lemmas.List.{length-map, map-append, length_push}
 use Rattle.std.proofs.lemmas.Option.{slice_get_within}
-use Rattle.aero_model.specs.declared.verdict.Ending.{Ending}
-use Rattle.aero_model.specs.declared.verdict.Finding.{Finding}
+use Rattle.aero_model.specs.declared.verdict.Found as model
 use Rattle.aero_model.specs.CallCounts.{Seen}
-use Rattle.aero_report.specs.Texts.{counted}
+use Rattle.aero_model.specs.Verdicts.{counted, total}
 use Rattle.aero_report.specs.declared.form.Form.{Form}
 use Rattle.aero_report.specs.Forms.{source_line_in}
 use Rattle.aero_batch.specs.declared.outcome.Cause.{Cause}
@@ -17,19 +16,17 @@ use Rattle.aero_batch.specs.declared.told.Told.{Told}
 use Rattle.aero_batch.specs.Alone.{TellsOf}
 use Rattle.aero_batch.specs.Notables.{notable_of}
 use Rattle.aero_batch.specs.Founds.{Sighted, Found, IsFoundOf, Took, sighted, ending_of, notable, lines_of_all}
-use Rattle.aero_batch.specs.Telling.{WasCut, TellsNext, IsOneMore, total}
+use Rattle.aero_batch.specs.Telling.{WasCut, TellsFound, IsOneMore}
 use Rattle.aero_batch.proofs.Stands.{get_push, lines_more, counts_more, took_more, took_nothing, slice_get_some, the_some}
 use Rattle.aero_intake.specs.Source.{Sight}
 use Rattle.aero_intake.specs.declared.source.SourceOf.{SourceOf}
-use Rattle.aero_batch.specs.declared.find.Judged.{Judged}
-use Rattle.aero_intake.specs.declared.track.Track.TheVariants as tracks
 use Rattle.aero_lanes.specs.declared.lane.Ended.{Ended}
 use Rattle.aero_lanes.specs.declared.seat.Seat.{Seat}
 use Rattle.aero_lanes.specs.declared.seat.Seat.TheVariants as seats
 use Rattle.aero_lanes.specs.Ends.{IsEndOf}
 use Rattle.aero_lanes.specs.Seats.{AreSeated, GoOn, IsFoundBy}
 use Rattle.aero_lanes.specs.Tellings.{StandsSo, StopsSo, WasCutSo, IsTextAfter, TellsEnd, TellsSeat, TellsNextSeat, HasNumbersOf, IsBegunSo}
-use Rattle.aero_verdict.specs.Finding.{Terms}
+use Rattle.aero_model.specs.Terms.{Terms}
 
 -- before anything is told
 pub begun_so : {R : Type 0} (known : R → Sight) (terms : Terms) (form : Form) (origin : List (SourceOf R)) (before : Seen) (seats : List (Seat R)) (a : Told) →
@@ -76,16 +73,16 @@ stands_on known terms form origin before mid old new a on st = record {
 }
 
 -- the next source, whose lane has ended and has found this
-found_next : {R : Type 0} (known : R → Sight) (terms : Terms) (origin : List (SourceOf R)) (all : List (Seat R)) (place : ℕ) (end : Ended R) (j : Judged) →
-    AreSeated known terms origin all → slice_get all place ≡ Some (seats.Done end) → end.judged ≡ Some j →
+found_next : {R : Type 0} (known : R → Sight) (terms : Terms) (origin : List (SourceOf R)) (all : List (Seat R)) (place : ℕ) (end : Ended R) (j : model.Found) →
+    AreSeated known terms origin all → slice_get all place ≡ Some (seats.Done end) → end.found ≡ Some j →
     (f : Found) × IsFoundBy known terms origin all place f × (ending_of f ≡ (j.bytes, j.ending)) × (f.finding ≡ j.finding) × (f.name ≡ end.source.name.items)
-found_next {R} known terms origin all place end j seated at judged_is =
+found_next {R} known terms origin all place end j seated at found_is =
     let within = slice_get_within all place (seats.Done end) at in
     let first = slice_get_some origin place (omega (arith, within, seated.count)) in
     let before = first.0 in
     let fits : IsEndOf known terms before end = seated.fits place before (seats.Done end) first.1 at in
-    let tells = subst (λ (o : Option Judged). IfSome o (λ x. TellsOf terms (sighted known before ∷ []) (sighted known end.source ∷ []) 0 (tracks.Found x.bytes x.ending x.finding)))
-    judged_is fits.found in
+    let tells = subst (λ (o : Option model.Found). IfSome o (λ x. TellsOf terms (sighted known before ∷ []) (sighted known end.source ∷ []) 0 x))
+    found_is fits.found in
     let f = tells.0 in
     let is = tells.1 in
     let same_before : sighted known before ≡ is.before = the_some (sighted known before) is.before is.was in
@@ -111,12 +108,12 @@ module _ {R : Type 0} (known : R → Sight) (terms : Terms) (form : Form) (all :
   Stops cause = (origin : List (SourceOf R)) (before : Seen) → StandsSo known terms form origin before mid all a → StopsSo known terms form origin before after all b (Some cause)
 
   -- one more source is told
-  told_more : (end : Ended R) (j : Judged) → slice_get all (vec_len a.endings) ≡ Some (seats.Done end) →
-      end.judged ≡ Some j → Took mid after (source_line_in form end.source.name.items j.finding) → IsOneMore a b j.bytes j.ending j.finding → Keeps
-  told_more end j at judged_is took more origin before st =
+  told_more : (end : Ended R) (j : model.Found) → slice_get all (vec_len a.endings) ≡ Some (seats.Done end) →
+      end.found ≡ Some j → Took mid after (source_line_in form end.source.name.items j.finding) → IsOneMore a b j → Keeps
+  told_more end j at found_is took more origin before st =
       let t = st.told_so in
       let same_place = place_is st.founds t.endings in
-      let next = found_next known terms origin all (vec_len a.endings) end j st.seated at judged_is in
+      let next = found_next known terms origin all (vec_len a.endings) end j st.seated at found_is in
       let f = next.0 in
       let line : source_line_in form end.source.name.items j.finding ≡ source_line_in form f.name f.finding = ap₂ (source_line_in form) (sym next.4) (sym next.3) in
       record {
@@ -163,12 +160,12 @@ module _ {R : Type 0} (known : R → Sight) (terms : Terms) (form : Form) (all :
   }
 
   -- a write of the next line failed
-  line_stops : (end : Ended R) (j : Judged) → slice_get all (vec_len a.endings) ≡ Some (seats.Done end) →
-      end.judged ≡ Some j → WasCut mid after (source_line_in form end.source.name.items j.finding) → b ≡ a → Stops Write
-  line_stops end j at judged_is cut same origin before st =
+  line_stops : (end : Ended R) (j : model.Found) → slice_get all (vec_len a.endings) ≡ Some (seats.Done end) →
+      end.found ≡ Some j → WasCut mid after (source_line_in form end.source.name.items j.finding) → b ≡ a → Stops Write
+  line_stops end j at found_is cut same origin before st =
       let t = st.told_so in
       let same_place = place_is st.founds t.endings in
-      let next = found_next known terms origin all (vec_len a.endings) end j st.seated at judged_is in
+      let next = found_next known terms origin all (vec_len a.endings) end j st.seated at found_is in
       let f = next.0 in
       let line : source_line_in form end.source.name.items j.finding ≡ source_line_in form f.name f.finding = ap₂ (source_line_in form) (sym next.4) (sym next.3) in
       subst (λ (x : Told). StopsSo known terms form origin before after all x (Some Write)) (sym same)
@@ -191,22 +188,22 @@ module _ {R : Type 0} (known : R → Sight) (terms : Terms) (form : Form) (all :
   not_told : (after ≡ mid) × (b ≡ a) → Tellings (Ok false)
   not_told same = record { stands = λ e. cc (e); unchanged = λ e. same; stopped = tt }
 
-  telling_judged : (end : Ended R) (j : Judged) (r : Result Bool Cause) → slice_get all (vec_len a.endings) ≡ Some (seats.Done end) → end.judged ≡ Some j →
-      TellsNext form end.source.name.items (tracks.Found j.bytes j.ending j.finding) mid after a b r → Tellings r
-  telling_judged end j (Ok true) at judged_is tells = record { stands = λ e. told_more end j at judged_is tells.0 tells.1; unchanged = λ e. cc (e); stopped = tt }
-  telling_judged end j (Ok false) at judged_is tells = absurd tells
-  telling_judged end j (Err Memory) at judged_is tells = record { stands = tt; unchanged = tt; stopped = memory_stops tells.0 tells.1 }
-  telling_judged end j (Err Write) at judged_is tells = record { stands = tt; unchanged = tt; stopped = line_stops end j at judged_is tells.0 tells.1 }
+  telling_found : (end : Ended R) (j : model.Found) (r : Result Bool Cause) → slice_get all (vec_len a.endings) ≡ Some (seats.Done end) → end.found ≡ Some j →
+      TellsFound form end.source.name.items j mid after a b r → Tellings r
+  telling_found end j (Ok true) at found_is tells = record { stands = λ e. told_more end j at found_is tells.0 tells.1; unchanged = λ e. cc (e); stopped = tt }
+  telling_found end j (Ok false) at found_is tells = absurd tells
+  telling_found end j (Err Memory) at found_is tells = record { stands = tt; unchanged = tt; stopped = memory_stops tells.0 tells.1 }
+  telling_found end j (Err Write) at found_is tells = record { stands = tt; unchanged = tt; stopped = line_stops end j at found_is tells.0 tells.1 }
 
-  telling_end : (end : Ended R) (judged : Option Judged) (r : Result Bool Cause) → slice_get all (vec_len a.endings) ≡ Some (seats.Done end) → end.judged ≡ judged →
-      TellsEnd form end.source.name.items judged mid after a b r → Tellings r
-  telling_end end (Some j) r at judged_is tells = telling_judged end j r at judged_is tells
-  telling_end end None (Ok told) at judged_is tells = absurd tells
-  telling_end end None (Err Memory) at judged_is tells = record { stands = tt; unchanged = tt; stopped = memory_stops tells.0 tells.1 }
-  telling_end end None (Err Write) at judged_is tells = absurd tells
+  telling_end : (end : Ended R) (found : Option model.Found) (r : Result Bool Cause) → slice_get all (vec_len a.endings) ≡ Some (seats.Done end) → end.found ≡ found →
+      TellsEnd form end.source.name.items found mid after a b r → Tellings r
+  telling_end end (Some j) r at found_is tells = telling_found end j r at found_is tells
+  telling_end end None (Ok told) at found_is tells = absurd tells
+  telling_end end None (Err Memory) at found_is tells = record { stands = tt; unchanged = tt; stopped = memory_stops tells.0 tells.1 }
+  telling_end end None (Err Write) at found_is tells = absurd tells
 
   telling_seat : (seat : Seat R) (r : Result Bool Cause) → slice_get all (vec_len a.endings) ≡ Some seat → TellsSeat form seat mid after a b r → Tellings r
-  telling_seat (seats.Done end) r at tells = telling_end end end.judged r at refl tells
+  telling_seat (seats.Done end) r at tells = telling_end end end.found r at refl tells
   telling_seat (seats.Waiting source) (Ok true) at tells = absurd tells
   telling_seat (seats.Waiting source) (Ok false) at tells = not_told tells
   telling_seat (seats.Waiting source) (Err cause) at tells = absurd tells
@@ -244,10 +241,10 @@ module _ (R : Type 0) (form : Form) (sources : ℕ) (mid after : Seen) (a b : To
   same_numbers : (after ≡ mid) × (b ≡ a) → HasNumbersOf sources b
   same_numbers same = subst (λ (x : Told). HasNumbersOf sources x) (sym same.1) numbers
 
-  more_numbers : (bytes : ℕ) (ending : Ending) (finding : Finding) → vec_len a.endings < sources → IsOneMore a b bytes ending finding → HasNumbersOf sources b
-  more_numbers bytes ending finding below more =
-      let len : vec_len b.endings ≡ vec_len a.endings + 1 = b.endings.ok.0 ∙ (ap length more.endings ∙ (length_push a.endings.items (bytes, ending) ∙ ap (λ n. n + 1) (sym a.endings.ok.0))) in
-      let lines : vec_len b.notables ≡ vec_len a.notables + 1 = b.notables.ok.0 ∙ (ap length more.notables ∙ (length_push a.notables.items (notable_of finding) ∙ ap (λ n. n + 1) (sym a.notables.ok.0))) in
+  more_numbers : (j : model.Found) → vec_len a.endings < sources → IsOneMore a b j → HasNumbersOf sources b
+  more_numbers j below more =
+      let len : vec_len b.endings ≡ vec_len a.endings + 1 = b.endings.ok.0 ∙ (ap length more.endings ∙ (length_push a.endings.items (j.bytes, j.ending) ∙ ap (λ n. n + 1) (sym a.endings.ok.0))) in
+      let lines : vec_len b.notables ≡ vec_len a.notables + 1 = b.notables.ok.0 ∙ (ap length more.notables ∙ (length_push a.notables.items (notable_of j.finding) ∙ ap (λ n. n + 1) (sym a.notables.ok.0))) in
       record {
         few = omega (arith, below, len);
         few_sources = numbers.few_sources;
@@ -257,19 +254,19 @@ module _ (R : Type 0) (form : Form) (sources : ℕ) (mid after : Seen) (a b : To
         notables_room = more.notables_room ∙ numbers.notables_room;
       }
 
-  numbers_judged : (name : List ℕ) (j : Judged) (r : Result Bool Cause) → vec_len a.endings < sources →
-      TellsNext form name (tracks.Found j.bytes j.ending j.finding) mid after a b r → OnOk r (HasNumbersOf sources b)
-  numbers_judged name j (Ok true) below tells = more_numbers j.bytes j.ending j.finding below tells.1
-  numbers_judged name j (Ok false) below tells = absurd tells
-  numbers_judged name j (Err cause) below tells = tt
+  numbers_found : (name : List ℕ) (j : model.Found) (r : Result Bool Cause) → vec_len a.endings < sources →
+      TellsFound form name j mid after a b r → OnOk r (HasNumbersOf sources b)
+  numbers_found name j (Ok true) below tells = more_numbers j below tells.1
+  numbers_found name j (Ok false) below tells = absurd tells
+  numbers_found name j (Err cause) below tells = tt
 
-  numbers_end : (name : List ℕ) (judged : Option Judged) (r : Result Bool Cause) → vec_len a.endings < sources → TellsEnd form name judged mid after a b r → OnOk r (HasNumbersOf sources b)
-  numbers_end name (Some j) r below tells = numbers_judged name j r below tells
+  numbers_end : (name : List ℕ) (found : Option model.Found) (r : Result Bool Cause) → vec_len a.endings < sources → TellsEnd form name found mid after a b r → OnOk r (HasNumbersOf sources b)
+  numbers_end name (Some j) r below tells = numbers_found name j r below tells
   numbers_end name None (Ok told) below tells = absurd tells
   numbers_end name None (Err cause) below tells = tt
 
   numbers_seat : (seat : Seat R) (r : Result Bool Cause) → vec_len a.endings < sources → TellsSeat form seat mid after a b r → OnOk r (HasNumbersOf sources b)
-  numbers_seat (seats.Done end) r below tells = numbers_end end.source.name.items end.judged r below tells
+  numbers_seat (seats.Done end) r below tells = numbers_end end.source.name.items end.found r below tells
   numbers_seat (seats.Waiting source) (Ok true) below tells = absurd tells
   numbers_seat (seats.Waiting source) (Ok false) below tells = same_numbers tells
   numbers_seat (seats.Waiting source) (Err cause) below tells = tt

@@ -4,11 +4,10 @@ use Rattle.aero_batch.specs.Alone.{TellsOf}
 use Rattle.aero_batch.specs.Founds.{sighted, whose}
 use Rattle.aero_intake.specs.Source.{Sight}
 use Rattle.aero_intake.specs.declared.source.SourceOf.{SourceOf}
-use Rattle.aero_intake.specs.declared.track.Track.TheVariants.{Found}
 use Rattle.aero_lanes.specs.declared.lane.Ended.{Ended}
-use Rattle.aero_verdict.specs.Finding.{Terms}
+use Rattle.aero_model.specs.Terms.{Terms}
 
 -- the source of the lane, by its name and what its reader was made for, and what was found of it, if that is known
 pub record IsEndOf {R : Type 0} (known : R → Sight) (terms : Terms) (before : SourceOf R) (end : Ended R) : Type 0 where
   pub whose_is : whose (sighted known end.source) ≡ whose (sighted known before)
-  pub found : IfSome end.judged (λ j. TellsOf terms (sighted known before ∷ []) (sighted known end.source ∷ []) 0 (Found j.bytes j.ending j.finding))
+  pub found : IfSome end.found (λ found. TellsOf terms (sighted known before ∷ []) (sighted known end.source ∷ []) 0 found)

@@ -10,7 +10,7 @@ use Rattle.aero_lanes.specs.declared.run.Report.{Report}
 use Rattle.aero_lanes.specs.declared.seat.Seat.{Seat}
 use Rattle.aero_lanes.specs.Seats.{AreSeated}
 use Rattle.aero_lanes.specs.Tellings.{IsBegunSo}
-use Rattle.aero_verdict.specs.Finding.{Terms}
+use Rattle.aero_model.specs.Terms.{Terms}
 
 -- Nothing is told yet of the sources on these seats, and there is room for them to come back.
 pub record IsReady {R : Type 0} (all : Room R) : Type 0 where
@@ -23,4 +23,4 @@ pub record IsReady {R : Type 0} (all : Room R) : Type 0 where
 pub record HasJudged {R : Type 0} (known : R → Sight) (terms : Terms) (form : Form) (seats : List (Seat R)) (before after : Seen) (report : Report)
     (back : List (SourceOf R)) : Type 0 where
   pub told : (origin : List (SourceOf R)) → AreSeated known terms origin seats →
-      WasTold terms form (map (sighted known) origin) (map (sighted known) back) before after report.endings.items report.notables.items report.counts report.cause
+      WasTold terms form (map (sighted known) origin) (map (sighted known) back) before after report.told.endings.items report.told.notables.items report.told.counts report.cause

@@ -8,7 +8,7 @@ use Rattle.aero_lanes.specs.Ends.{IsEndOf}
 use Rattle.aero_lanes.specs.declared.lane.Ended.{Ended}
 use Rattle.aero_lanes.specs.declared.seat.Seat.{Seat}
 use Rattle.aero_lanes.specs.declared.seat.Seat.TheVariants.{Waiting, Running, Done, Empty}
-use Rattle.aero_verdict.specs.Finding.{Terms}
+use Rattle.aero_model.specs.Terms.{Terms}
 
 -- the seat of a source that was this at first, and is judged on these terms
 abbrev pub FitsSeat : {R : Type 0} → (R → Sight) → Terms → SourceOf R → Seat R → Type 0

@@ -2,23 +2,22 @@
 use Rattle.std.specs.Prelude.{◌≡◌, ℕ, ◌+◌, ◌<◌, ◌≤◌, Bool, true, false, List, [], ◌++◌, map, length, take, slice_get, vec_len, vec_capacity, Option, Some, None}
 use Rattle.std.specs.Prelude.{Result, Ok, Err}
 use Rattle.std.specs.Io.KnownBytes.{Appends}
+use Rattle.aero_model.specs.declared.verdict.Found as model
 use Rattle.aero_model.specs.CallCounts.{Seen}
 use Rattle.aero_report.specs.declared.form.Form.{Form}
-use Rattle.aero_report.specs.Texts.{no_counts}
+use Rattle.aero_model.specs.Verdicts.{no_counts, total}
 use Rattle.aero_report.specs.Forms.{source_line_in}
 use Rattle.aero_batch.specs.declared.outcome.Cause.{Cause}
 use Rattle.aero_batch.specs.declared.outcome.Cause.TheVariants.{Memory, Write}
 use Rattle.aero_batch.specs.declared.told.Told.{Told}
 use Rattle.aero_batch.specs.Founds.{Found, Took, ending_of, notable, lines_of_all, counts_of_all}
-use Rattle.aero_batch.specs.Telling.{TellsNext, total}
+use Rattle.aero_batch.specs.Telling.{TellsFound}
 use Rattle.aero_intake.specs.Source.{Sight}
 use Rattle.aero_intake.specs.declared.source.SourceOf.{SourceOf}
-use Rattle.aero_intake.specs.declared.track.Track.TheVariants as tracks
-use Rattle.aero_batch.specs.declared.find.Judged.{Judged}
 use Rattle.aero_lanes.specs.declared.seat.Seat.{Seat}
 use Rattle.aero_lanes.specs.declared.seat.Seat.TheVariants.{Done}
 use Rattle.aero_lanes.specs.Seats.{AreSeated, IsFoundBy}
-use Rattle.aero_verdict.specs.Finding.{Terms}
+use Rattle.aero_model.specs.Terms.{Terms}
 
 -- The first sources were told, as many as there are founds, and nothing else was written.
 pub record AreToldSo {R : Type 0} (known : R → Sight) (terms : Terms) (form : Form) (origin : List (SourceOf R)) (before after : Seen)
@@ -85,14 +84,14 @@ pub record StopsSo {R : Type 0} (known : R → Sight) (terms : Terms) (form : Fo
   pub written : IsWrittenSo known terms form origin seats founds before after cause
 
 -- what is told of a source whose lane has ended: where nothing was found memory was refused
-abbrev pub TellsEnd : Form → List ℕ → Option Judged → Seen → Seen → Told → Told → Result Bool Cause → Type 0
-TellsEnd form name (Some j) before after old new result = TellsNext form name (tracks.Found j.bytes j.ending j.finding) before after old new result
+abbrev pub TellsEnd : Form → List ℕ → Option model.Found → Seen → Seen → Told → Told → Result Bool Cause → Type 0
+TellsEnd form name (Some found) before after old new result = TellsFound form name found before after old new result
 TellsEnd form name None before after old new (Err Memory) = Took before after [] × (new ≡ old)
 TellsEnd form name None before after old new (Err Write) = ⊥
 TellsEnd form name None before after old new (Ok told) = ⊥
 
 abbrev pub TellsSeat : {R : Type 0} → Form → Seat R → Seen → Seen → Told → Told → Result Bool Cause → Type 0
-TellsSeat form (Done end) before after old new result = TellsEnd form end.source.name.items end.judged before after old new result
+TellsSeat form (Done end) before after old new result = TellsEnd form end.source.name.items end.found before after old new result
 TellsSeat form seat before after old new (Ok true) = ⊥
 TellsSeat form seat before after old new (Ok false) = (after ≡ before) × (new ≡ old)
 TellsSeat form seat before after old new (Err cause) = ⊥

@@ -4,20 +4,21 @@ ghost use Rattle.aero_intake.specs.PlanTerms.{terms_of};
 ghost use Rattle.aero_lanes.specs.Ends.{IsEndOf};
 
 use crate::shared::Shared;
-use aero_batch::find::{Judged, find};
+use aero_batch::find::find;
 use aero_batch::helpers::Nobody;
 use aero_batch::setting::Setting;
 use aero_intake::{Followed, Plan, SourceOf};
+use aero_model::Found;
 use std::snapshot::Snapshot;
 use std::sync::Wait;
 use std::thread::Promise;
 
-// What a lane gives back: its source, and what was found of it. Nothing was found where memory was refused, or where the
-// lane was given up.
+// A lane gives back its source, and what was found of it. Nothing was found if memory was refused, or if the lane was given
+// up.
 #[derive(Drop)]
 pub(crate) struct Ended<R> {
     pub(crate) source: SourceOf<R>,
-    pub(crate) judged: Option<Judged>,
+    pub(crate) found: Option<Found>,
 }
 
 // A lane's promise: what it gives back is this source, and what was found of it by this plan. The snapshots are of the
@@ -59,7 +60,7 @@ fn find_alone<R: Followed + Drop, T: Wait + Copy>(
     let Ok(mut one) = Vec::with_capacity(shared.alloc, 1) else {
         return Ended {
             source,
-            judged: None,
+            found: None,
         };
     };
     one.push_reserved(source);
@@ -68,9 +69,9 @@ fn find_alone<R: Followed + Drop, T: Wait + Copy>(
         alloc: shared.alloc,
         plan: shared.plan,
     };
-    let judged = find(&setting, &mut one, &mut Nobody, shared.is_given_up);
+    let found = find(&setting, &mut one, &mut Nobody, shared.is_given_up);
     let Some(source) = one.pop() else {
         unreachable!()
     };
-    Ended { source, judged }
+    Ended { source, found }
 }

@@ -2,7 +2,7 @@
 ghost use Rattle.std.specs.Prelude.{◌≡◌, ◌<◌, vec_len, IsTrue};
 ghost use Rattle.aero_intake.specs.PlanTerms.{terms_of};
 ghost use Rattle.aero_lanes.specs.Seats.{GoOn};
-ghost use Rattle.aero_verdict.specs.Finding.{Terms};
+ghost use Rattle.aero_model.specs.Terms.{Terms};
 
 use crate::seat::{Seat, end, is_running, may_wait, start};
 use crate::shared::Shared;
@@ -28,7 +28,8 @@ pub(crate) fn move_on<'s, E, R: Followed + Drop + Send + 's, T: Threads + Wait +
     lanes: &mut Lanes<R>,
     told: usize,
 )
-    ensures goes { GoOn R.sight (terms_of shared.entry.plan.now) lanes.old.seats.items lanes.new.seats.items }
+    ensures goes { GoOn R.sight (terms_of shared.entry.plan.now) lanes.old.seats.items
+        lanes.new.seats.items }
     ensures count { vec_len lanes.new.seats ≡ vec_len lanes.old.seats }
 {
     if may_start(shared.plan, lanes, told) {
@@ -56,7 +57,8 @@ fn start_next<'s, E, R: Followed + Drop + Send + 's, T: Wait + Copy + Sync + 's>
     lanes: &mut Lanes<R>,
 )
     requires { lanes.old.started < vec_len lanes.old.seats }
-    ensures goes { GoOn R.sight (terms_of shared.entry.plan.now) lanes.old.seats.items lanes.new.seats.items }
+    ensures goes { GoOn R.sight (terms_of shared.entry.plan.now) lanes.old.seats.items
+        lanes.new.seats.items }
     ensures count { vec_len lanes.new.seats ≡ vec_len lanes.old.seats }
 {
     let place = lanes.started;
@@ -68,7 +70,8 @@ fn start_next<'s, E, R: Followed + Drop + Send + 's, T: Wait + Copy + Sync + 's>
 
 // Waits for the next lane that ends, and takes what it gives back.
 fn end_one<R: Followed + Drop, T: Threads + Wait>(rt: &T, lanes: &mut Lanes<R>)
-    ensures goes { (terms : Terms) → GoOn R.sight terms lanes.old.seats.items lanes.new.seats.items }
+    ensures goes { (terms : Terms) →
+        GoOn R.sight terms lanes.old.seats.items lanes.new.seats.items }
     ensures count { vec_len lanes.new.seats ≡ vec_len lanes.old.seats }
 {
     let Some(place) = next_end(rt, &lanes.ends) else {

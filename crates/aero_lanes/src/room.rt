@@ -2,7 +2,7 @@
 ghost use Rattle.std.specs.Prelude.{◌≡◌, ◌≤◌, [], vec_len, vec_capacity, IfOk};
 ghost use Rattle.aero_lanes.specs.Seats.{AreSeated, AreBack, waiting};
 ghost use Rattle.aero_lanes.specs.Tellings.{IsBegunSo};
-ghost use Rattle.aero_verdict.specs.Finding.{Terms};
+ghost use Rattle.aero_model.specs.Terms.{Terms};
 
 use crate::seat::{Seat, source_of};
 use aero_batch::told::Told;
@@ -28,9 +28,11 @@ pub(crate) fn room_for<R: Followed + Drop>(
     sources: usize,
 ) -> Result<(Room<R>, Sender<u64>), AllocError>
     requires { sources ≤ 65536 }
-    ensures seats { IfOk result (λ made. (made.0.seats.items ≡ []) × (vec_capacity made.0.seats ≡ sources)) }
+    ensures seats { IfOk result (λ made. (made.0.seats.items ≡ []) ×
+        (vec_capacity made.0.seats ≡ sources)) }
     ensures told { IfOk result (λ made. IsBegunSo sources made.0.told) }
-    ensures back { IfOk result (λ made. (made.0.back.items ≡ []) × (vec_capacity made.0.back ≡ sources)) }
+    ensures back { IfOk result (λ made. (made.0.back.items ≡ []) ×
+        (vec_capacity made.0.back ≡ sources)) }
 {
     let seats = Vec::with_capacity(alloc, sources)?;
     let told = Told::new(alloc, sources)?;
@@ -64,7 +66,8 @@ pub(crate) fn all_back<R: Followed + Drop, T: Threads>(
 ) -> Vec<SourceOf<R>>
     requires none { back.items ≡ [] }
     requires room { vec_capacity back ≡ vec_len seats }
-    ensures { (terms : Terms) (origin : _) → AreSeated R.sight terms origin seats.items → AreBack R.sight origin seats.items result.items }
+    ensures { (terms : Terms) (origin : _) → AreSeated R.sight terms origin seats.items →
+        AreBack R.sight origin seats.items result.items }
 {
     for seat in seats {
         if let Some(source) = source_of(rt, seat) {

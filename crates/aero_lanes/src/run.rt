@@ -5,17 +5,17 @@ ghost use Rattle.aero_batch.specs.Telling.{cause_of};
 ghost use Rattle.aero_intake.specs.PlanTerms.{terms_of};
 ghost use Rattle.aero_lanes.specs.Judged.{HasJudged, IsReady};
 ghost use Rattle.aero_model.specs.CallCounts.{seen_by};
-ghost use Rattle.aero_report.specs.Texts.{no_counts};
+ghost use Rattle.aero_model.specs.Verdicts.{no_counts};
 
 use crate::lanes::Lanes;
 use crate::room::{Room, all_back, room_for, seat_all};
 use crate::shared::Shared;
 use crate::steps::tell_all;
 use aero_batch::setting::Setting;
-use aero_batch::told::{Told, nothing_counted};
-use aero_batch::{Cause, Notable, Outcome, run_lines};
+use aero_batch::told::Told;
+use aero_batch::{Cause, Outcome, run_lines};
 use aero_intake::{Followed, Plan, SourceOf};
-use aero_model::{Counting, Counts, Ending};
+use aero_model::{Counting, Counts};
 use aero_worker::NoGate;
 use std::alloc::Global;
 use std::io::Write;
@@ -27,12 +27,8 @@ use std::thread::{Scope, Threads};
 /// What was found of the sources whose lines were written whole, which are the first ones, and why the run stopped.
 #[derive(Drop)]
 pub struct Report {
-    /// How many bytes came of each of these sources, and how they ended.
-    pub endings: Vec<(u64, Ending)>,
-    /// What is noted of each beside its line, if something is.
-    pub notables: Vec<Option<Notable>>,
-    /// How many of them were found to be what: 65,536 in all at most.
-    pub counts: Counts,
+    /// What was told of these sources: 65,536 at most.
+    pub told: Told,
     /// Why not all lines were written, if so.
     pub cause: Option<Cause>,
 }
@@ -58,8 +54,10 @@ pub fn run_in_lanes<
     plan: &Plan,
 ) -> (Report, Vec<SourceOf<R>>)
     requires { vec_len sources ≤ 65536 }
-    ensures told { WasTold (terms_of plan.now) plan.now.form (map (sighted R.sight) sources.items) (map (sighted R.sight) result.1.items)
-        (seen_by W.contents writer.old) (seen_by W.contents writer.new) result.0.endings.items result.0.notables.items result.0.counts result.0.cause }
+    ensures told { WasTold (terms_of plan.now) plan.now.form (map (sighted R.sight) sources.items)
+        (map (sighted R.sight) result.1.items)
+        (seen_by W.contents writer.old) (seen_by W.contents writer.new) result.0.told.endings.items
+        result.0.told.notables.items result.0.told.counts result.0.cause }
 {
     if sources.len() < 2 || plan.workers < 2 {
         return run_in_turn(rt, alloc, sources, writer, plan);
@@ -89,8 +87,10 @@ pub fn run_in_turn<R: Followed, W: Write, T: Threads + Wait + Copy + Send + 'sta
     plan: &Plan,
 ) -> (Report, Vec<SourceOf<R>>)
     requires { vec_len sources ≤ 65536 }
-    ensures told { WasTold (terms_of plan.now) plan.now.form (map (sighted R.sight) sources.items) (map (sighted R.sight) result.1.items)
-        (seen_by W.contents writer.old) (seen_by W.contents writer.new) result.0.endings.items result.0.notables.items result.0.counts result.0.cause }
+    ensures told { WasTold (terms_of plan.now) plan.now.form (map (sighted R.sight) sources.items)
+        (map (sighted R.sight) result.1.items)
+        (seen_by W.contents writer.old) (seen_by W.contents writer.new) result.0.told.endings.items
+        result.0.told.notables.items result.0.told.counts result.0.cause }
 {
     let Ok(gate) = Arc::new(alloc, NoGate) else {
         return (refused(alloc), sources);
@@ -107,26 +107,28 @@ pub fn run_in_turn<R: Followed, W: Write, T: Threads + Wait + Copy + Send + 'sta
         cause,
         ..
     } = run_lines(&setting, &mut sources, writer, gate);
-    let report = Report {
+    let told = Told {
         endings,
         notables,
         counts,
-        cause,
     };
-    (report, sources)
+    (Report { told, cause }, sources)
 }
 
 // Where memory was refused before any source was read.
 fn refused(alloc: Global) -> Report
-    ensures endings { result.endings.items ≡ [] }
-    ensures notables { result.notables.items ≡ [] }
-    ensures counts { result.counts ≡ no_counts }
+    ensures endings { result.told.endings.items ≡ [] }
+    ensures notables { result.told.notables.items ≡ [] }
+    ensures counts { result.told.counts ≡ no_counts }
     ensures cause { result.cause ≡ Some Cause.Memory }
 {
-    Report {
+    let told = Told {
         endings: Vec::new(alloc),
         notables: Vec::new(alloc),
-        counts: nothing_counted(),
+        counts: Counts::none(),
+    };
+    Report {
+        told,
         cause: Some(Cause::Memory),
     }
 }
@@ -139,14 +141,17 @@ fn judge_all<R: Followed + Drop + Send, W: Write, T: Threads + Wait + Copy + Syn
     writer: &mut Counting<W>,
 ) -> (Report, Vec<SourceOf<R>>)
     requires { IsReady room }
-    ensures { HasJudged R.sight (terms_of shared.entry.plan.now) shared.entry.plan.now.form room.seats.items (seen_by W.contents writer.old) (seen_by W.contents writer.new) result.0 result.1.items }
+    ensures { HasJudged R.sight (terms_of shared.entry.plan.now) shared.entry.plan.now.form
+        room.seats.items (seen_by W.contents writer.old) (seen_by W.contents writer.new) result.0
+        result.1.items }
 {
     let (report, sources, writer) = thread::scope(
         thread::scope_env(),
         shared.rt,
         move |scope| -> (Report, Vec<SourceOf<R>>, &mut Counting<W>)
             requires { IsReady room }
-            ensures told { HasJudged R.sight (terms_of shared.entry.plan.now) shared.entry.plan.now.form room.seats.items (seen_by W.contents writer.entry.now)
+            ensures told { HasJudged R.sight (terms_of shared.entry.plan.now)
+                shared.entry.plan.now.form room.seats.items (seen_by W.contents writer.entry.now)
                 (seen_by W.contents result.2.now) result.0 result.1.items }
             ensures same { result.2.ghost_name ≡ writer.entry.ghost_name }
         {
@@ -171,7 +176,9 @@ fn judge_in<'s, E, R: Followed + Drop + Send + 's, W: Write, T: Threads + Wait +
     writer: &mut Counting<W>,
 ) -> (Report, Vec<SourceOf<R>>)
     requires { IsReady room }
-    ensures { HasJudged R.sight (terms_of shared.entry.plan.now) shared.entry.plan.now.form room.seats.items (seen_by W.contents writer.old) (seen_by W.contents writer.new) result.0 result.1.items }
+    ensures { HasJudged R.sight (terms_of shared.entry.plan.now) shared.entry.plan.now.form
+        room.seats.items (seen_by W.contents writer.old) (seen_by W.contents writer.new) result.0
+        result.1.items }
 {
     let Room {
         seats,
@@ -190,18 +197,7 @@ fn judge_in<'s, E, R: Followed + Drop + Send + 's, W: Write, T: Threads + Wait +
     shared.is_given_up.store(true, Ordering::SeqCst);
     let Lanes { seats, .. } = lanes;
     let sources = all_back(shared.rt, seats, back);
-    let Told {
-        endings,
-        notables,
-        counts,
-    } = told;
-    let report = Report {
-        endings,
-        notables,
-        counts,
-        cause,
-    };
-    (report, sources)
+    (Report { told, cause }, sources)
 }
 
 // Why the telling stopped, if it did before its end.

@@ -3,7 +3,7 @@ ghost use Rattle.std.specs.Prelude.{◌≡◌};
 ghost use Rattle.aero_intake.specs.PlanTerms.{terms_of};
 ghost use Rattle.aero_lanes.specs.Ends.{IsEndOf};
 ghost use Rattle.aero_lanes.specs.Seats.{FitsSeat, StaysDone, GivesBack};
-ghost use Rattle.aero_verdict.specs.Finding.{Terms};
+ghost use Rattle.aero_model.specs.Terms.{Terms};
 
 use crate::lane::{Ended, Finds, work};
 use crate::shared::Shared;
@@ -34,7 +34,8 @@ pub(crate) fn start<'s, E, R: Followed + Drop + Send + 's, T: Wait + Copy + Sync
     seat: &mut Seat<R>,
     place: u64,
 )
-    ensures fits { (before : _) → FitsSeat R.sight (terms_of shared.entry.plan.now) before seat.old → FitsSeat R.sight (terms_of shared.entry.plan.now) before seat.new }
+    ensures fits { (before : _) → FitsSeat R.sight (terms_of shared.entry.plan.now) before
+        seat.old → FitsSeat R.sight (terms_of shared.entry.plan.now) before seat.new }
     ensures done { StaysDone seat.old seat.new }
 {
     *seat = match mem::replace(seat, Seat::Empty) {
@@ -63,7 +64,8 @@ fn started<'s, E, R: Followed + Drop + Send + 's, T: Wait + Copy + Sync + 's>(
 
 // Waits until a lane that runs has ended, and takes what it gives back. Any other seat stays as it is.
 pub(crate) fn end<R: Followed + Drop, T: Threads>(rt: &T, seat: &mut Seat<R>)
-    ensures fits { (terms : Terms) (before : _) → FitsSeat R.sight terms before seat.old → FitsSeat R.sight terms before seat.new }
+    ensures fits { (terms : Terms) (before : _) → FitsSeat R.sight terms before seat.old →
+        FitsSeat R.sight terms before seat.new }
     ensures done { StaysDone seat.old seat.new }
 {
     *seat = match mem::replace(seat, Seat::Empty) {
@@ -77,7 +79,8 @@ pub(crate) fn source_of<R: Followed + Drop, T: Threads>(
     rt: &T,
     seat: Seat<R>,
 ) -> Option<SourceOf<R>>
-    ensures { (terms : Terms) (before : _) → FitsSeat R.sight terms before seat → GivesBack R.sight before seat result }
+    ensures { (terms : Terms) (before : _) → FitsSeat R.sight terms before seat →
+        GivesBack R.sight before seat result }
 {
     match seat {
         Seat::Waiting(source) => Some(source),

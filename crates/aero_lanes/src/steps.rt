@@ -32,9 +32,12 @@ pub(crate) fn tell_all<
 ) -> Result<(), Cause>
     requires { HasNumbersOf (vec_len lanes.old.seats) told.old }
     ensures count { vec_len lanes.new.seats ≡ vec_len lanes.old.seats }
-    ensures stopped { (origin : _) → StandsSo R.sight (terms_of shared.entry.plan.now) shared.entry.plan.now.form origin (seen_by W.contents writer.old)
+    ensures stopped { (origin : _) →
+        StandsSo R.sight (terms_of shared.entry.plan.now) shared.entry.plan.now.form origin
+        (seen_by W.contents writer.old)
         (seen_by W.contents writer.old) lanes.old.seats.items told.old →
-        StopsSo R.sight (terms_of shared.entry.plan.now) shared.entry.plan.now.form origin (seen_by W.contents writer.old)
+        StopsSo R.sight (terms_of shared.entry.plan.now) shared.entry.plan.now.form origin
+        (seen_by W.contents writer.old)
         (seen_by W.contents writer.new) lanes.new.seats.items told.new (cause_of result) }
 {
     'steps: for _ in shared.rt.forever() {
@@ -60,12 +63,17 @@ fn advance<'s, E, R: Followed + Drop + Send + 's, W: Write, T: Threads + Wait + 
     ensures numbers { OnOk result (HasNumbersOf (vec_len lanes.new.seats) told.new) }
     ensures count { vec_len lanes.new.seats ≡ vec_len lanes.old.seats }
     ensures stands { OnOk result ((origin : _) (before : Seen) →
-        StandsSo R.sight (terms_of shared.entry.plan.now) shared.entry.plan.now.form origin before (seen_by W.contents writer.old) lanes.old.seats.items told.old →
-        StandsSo R.sight (terms_of shared.entry.plan.now) shared.entry.plan.now.form origin before (seen_by W.contents writer.new) lanes.new.seats.items told.new) }
+        StandsSo R.sight (terms_of shared.entry.plan.now) shared.entry.plan.now.form origin before
+        (seen_by W.contents writer.old) lanes.old.seats.items told.old →
+        StandsSo R.sight (terms_of shared.entry.plan.now) shared.entry.plan.now.form origin before
+        (seen_by W.contents writer.new) lanes.new.seats.items told.new) }
     ensures stopped { IfErr result (λ cause. (origin : _) (before : Seen) →
-        StandsSo R.sight (terms_of shared.entry.plan.now) shared.entry.plan.now.form origin before (seen_by W.contents writer.old) lanes.old.seats.items told.old →
-        StopsSo R.sight (terms_of shared.entry.plan.now) shared.entry.plan.now.form origin before (seen_by W.contents writer.new) lanes.new.seats.items told.new (Some cause)) }
-    ensures all_told { IfOk result (λ is_done. is_done ≡ true → vec_len told.new.endings ≡ vec_len lanes.new.seats) }
+        StandsSo R.sight (terms_of shared.entry.plan.now) shared.entry.plan.now.form origin before
+        (seen_by W.contents writer.old) lanes.old.seats.items told.old →
+        StopsSo R.sight (terms_of shared.entry.plan.now) shared.entry.plan.now.form origin before
+        (seen_by W.contents writer.new) lanes.new.seats.items told.new (Some cause)) }
+    ensures all_told { IfOk result (λ is_done. is_done ≡ true →
+        vec_len told.new.endings ≡ vec_len lanes.new.seats) }
 {
     if tell_ready(shared, lanes, writer, told)? {
         return Ok(false);

@@ -9,10 +9,9 @@ use crate::lanes::Lanes;
 use crate::seat::Seat;
 use crate::shared::Shared;
 use aero_batch::Cause;
-use aero_batch::find::Judged;
-use aero_batch::told::{Said, Style, Told, tell_found};
+use aero_batch::told::{Style, Told, tell_found};
 use aero_intake::Followed;
-use aero_model::Counting;
+use aero_model::{Counting, Found};
 use std::io::Write;
 
 // How the texts of the run are made.
@@ -35,12 +34,17 @@ pub(crate) fn tell_ready<R: Followed, W: Write, T: Copy>(
     requires { HasNumbersOf (vec_len lanes.now.seats) told.old }
     ensures numbers { OnOk result (HasNumbersOf (vec_len lanes.now.seats) told.new) }
     ensures stands { IfOk result (λ is_told. is_told ≡ true → (origin : _) (before : Seen) →
-        StandsSo R.sight (terms_of shared.entry.plan.now) shared.entry.plan.now.form origin before (seen_by W.contents writer.old) lanes.now.seats.items told.old →
-        StandsSo R.sight (terms_of shared.entry.plan.now) shared.entry.plan.now.form origin before (seen_by W.contents writer.new) lanes.now.seats.items told.new) }
-    ensures unchanged { IfOk result (λ is_told. is_told ≡ false → (seen_by W.contents writer.new ≡ seen_by W.contents writer.old) × (told.new ≡ told.old)) }
+        StandsSo R.sight (terms_of shared.entry.plan.now) shared.entry.plan.now.form origin before
+        (seen_by W.contents writer.old) lanes.now.seats.items told.old →
+        StandsSo R.sight (terms_of shared.entry.plan.now) shared.entry.plan.now.form origin before
+        (seen_by W.contents writer.new) lanes.now.seats.items told.new) }
+    ensures unchanged { IfOk result (λ is_told. is_told ≡ false →
+        (seen_by W.contents writer.new ≡ seen_by W.contents writer.old) × (told.new ≡ told.old)) }
     ensures stopped { IfErr result (λ cause. (origin : _) (before : Seen) →
-        StandsSo R.sight (terms_of shared.entry.plan.now) shared.entry.plan.now.form origin before (seen_by W.contents writer.old) lanes.now.seats.items told.old →
-        StopsSo R.sight (terms_of shared.entry.plan.now) shared.entry.plan.now.form origin before (seen_by W.contents writer.new) lanes.now.seats.items told.new (Some cause)) }
+        StandsSo R.sight (terms_of shared.entry.plan.now) shared.entry.plan.now.form origin before
+        (seen_by W.contents writer.old) lanes.now.seats.items told.old →
+        StopsSo R.sight (terms_of shared.entry.plan.now) shared.entry.plan.now.form origin before
+        (seen_by W.contents writer.new) lanes.now.seats.items told.new (Some cause)) }
 {
     tell_next_seat(style_of(shared), &lanes.seats, writer, told)
 }
@@ -53,7 +57,8 @@ fn tell_next_seat<R: Followed, W: Write>(
     told: &mut Told,
 ) -> Result<bool, Cause>
     requires { HasNumbersOf (length seats.now) told.old }
-    ensures { TellsNextSeat style.form (slice_get seats.now (vec_len told.old.endings)) (seen_by W.contents writer.old)
+    ensures { TellsNextSeat style.form (slice_get seats.now (vec_len told.old.endings))
+        (seen_by W.contents writer.old)
         (seen_by W.contents writer.new) told.old told.new result }
 {
     let place = told.endings.len();
@@ -71,13 +76,14 @@ fn tell_seat<R: Followed, W: Write>(
     told: &mut Told,
 ) -> Result<bool, Cause>
     requires room { HasRoom told.old }
-    ensures { TellsSeat style.form seat.now (seen_by W.contents writer.old) (seen_by W.contents writer.new) told.old told.new result }
+    ensures { TellsSeat style.form seat.now (seen_by W.contents writer.old)
+        (seen_by W.contents writer.new) told.old told.new result }
 {
     match seat {
         Seat::Done(ended) => tell_end(
             style,
             ended.source.name.as_slice(),
-            &ended.judged,
+            &ended.found,
             writer,
             told,
         ),
@@ -90,22 +96,16 @@ fn tell_seat<R: Followed, W: Write>(
 fn tell_end<W: Write>(
     style: Style,
     name: &[u8],
-    judged: &Option<Judged>,
+    found: &Option<Found>,
     writer: &mut Counting<W>,
     told: &mut Told,
 ) -> Result<bool, Cause>
     requires room { HasRoom told.old }
-    ensures { TellsEnd style.form name.now judged.now (seen_by W.contents writer.old) (seen_by W.contents writer.new) told.old told.new result }
+    ensures { TellsEnd style.form name.now found.now (seen_by W.contents writer.old)
+        (seen_by W.contents writer.new) told.old told.new result }
 {
-    match judged {
-        Some(judged) => {
-            let said = Said {
-                bytes: judged.bytes,
-                ending: judged.ending,
-                finding: &judged.finding,
-            };
-            tell_found(style, name, said, writer, told)
-        }
+    match found {
+        Some(found) => tell_found(style, name, found, writer, told),
         None => Err(Cause::Memory),
     }
 }

@@ -1,11 +1,11 @@
 -- The marks that an event takes stand for all that conflicts with it.
 use Rattle.std.proofs.Common.{◌≡◌, ◌≢◌, ℕ, ◌<◌, ◌≤◌, ◌⊎◌, inl, inr, ⊎_elim, List, [], ◌∷◌, ◌++◌, Option, Some, None, refl, sym, ap, ◌∙◌, subst, arith}
-use Rattle.std.specs.Prelude.{◌==◌, true, slice_get, Contains}
-use Rattle.std.proofs.lemmas.Bool.{cases_lt, cases_eq, eqb-true, and_parts}
+use Rattle.std.specs.Prelude.{slice_get, Contains}
+use Rattle.std.proofs.lemmas.Bool.{cases_lt, cases_eq}
 use Rattle.std.proofs.lemmas.List.Elements.{Contains-append_left, Contains-append_right, Contains-append_cases}
 use Rattle.std.proofs.lemmas.Option.{same_Some}
 use Rattle.aero_model.specs.declared.numbered.Numbered.{Numbered}
-use Rattle.aero_model.specs.declared.numbered.What.TheVariants.{Read, Write, Acquire, Join}
+use Rattle.aero_model.specs.declared.numbered.What.TheVariants.{Read, Write, Join}
 use Rattle.aero_model.specs.Graph.{Conflict, read_write}
 use Rattle.aero_model.specs.Shape.{IsWellFormed}
 use Rattle.aero_model.proofs.Elements.{none_in, here, first_or_rest}
@@ -13,10 +13,10 @@ use Rattle.aero_model.proofs.Reach.{Reach, stay, reach_trans}
 use Rattle.aero_model.proofs.WellFormed.{joins_other}
 use Rattle.aero_engine.specs.declared.slot.Slot.{Slot}
 use Rattle.aero_engine.specs.declared.slot.Slot.TheVariants.{OfThread, LastWrite, LastRead, LastRelease}
-use Rattle.aero_engine.specs.Slots.{is_read_of, of_slot, last_event}
-use Rattle.aero_engine.specs.Takes.{takes_only_own, HasActed}
-use Rattle.aero_engine.proofs.LastEvents.{read_is, write_is, to_thread, IsLast, is_last}
-use Rattle.aero_engine.proofs.Sources.{Source, own, read, write, write_after_read, acquire, join, source_conflicts, Covered, covered, latest, reach_latest, reach_later}
+use Rattle.aero_engine.specs.Slots.{of_slot, last_event}
+use Rattle.aero_engine.specs.Takes.{HasActed}
+use Rattle.aero_engine.proofs.LastEvents.{write_is, to_thread, IsLast, is_last}
+use Rattle.aero_engine.proofs.Sources.{Source, read, write, acquire, join, by_reader, of_plain, of_read, of_acquire, of_join, of_write, source_conflicts, Covered, covered, latest, reach_latest, reach_later}
 use Rattle.aero_leads.specs.Leads.{IsPlaceOf}
 use Rattle.aero_leads.specs.Marks.{Mark, mark, IsPassed, IfOther, nobodys, its_own, other, IsReadAt, AreReads, TakesMarks}
 use Rattle.aero_leads.specs.Marks as takes
@@ -120,47 +120,6 @@ module _ (trace : List Numbered) (ok : IsWellFormed trace) (n : ℕ) (e : Number
       (λ h. other_way s ms q iff (subst (λ z. last_event trace n z ≡ Some q) h last))
       (only r from))
 
-  -- what a source is, by what the event does
-  of_plain : (s : Slot) → takes_only_own e.what ≡ true → Source trace n e s → s ≡ OfThread e.thread
-  of_plain _ h own = refl
-  of_plain _ h (read x k) = let z = ap takes_only_own k in cc
-  of_plain _ h (write x k) = let z = ap takes_only_own k in cc
-  of_plain _ h (write_after_read x u k) = let z = ap takes_only_own k in cc
-  of_plain _ h (acquire l k) = let z = ap takes_only_own k in cc
-  of_plain _ h (join u k a) = let z = ap takes_only_own k in cc
-
-  of_read : (x : ℕ) (s : Slot) → e.what ≡ Read x → Source trace n e s → (s ≡ OfThread e.thread) ⊎ (s ≡ LastWrite x)
-  of_read x _ h own = inl refl
-  of_read x _ h (read y k) = inr cc
-  of_read x _ h (write y k) = cc
-  of_read x _ h (write_after_read y u k) = cc
-  of_read x _ h (acquire l k) = cc
-  of_read x _ h (join u k a) = cc
-
-  of_acquire : (l : ℕ) (s : Slot) → e.what ≡ Acquire l → Source trace n e s → (s ≡ OfThread e.thread) ⊎ (s ≡ LastRelease l)
-  of_acquire l _ h own = inl refl
-  of_acquire l _ h (read y k) = cc
-  of_acquire l _ h (write y k) = cc
-  of_acquire l _ h (write_after_read y u k) = cc
-  of_acquire l _ h (acquire m k) = inr cc
-  of_acquire l _ h (join u k a) = cc
-
-  of_join : (u : ℕ) (s : Slot) → e.what ≡ Join u → Source trace n e s → (s ≡ OfThread e.thread) ⊎ ((s ≡ OfThread u) × HasActed trace n u)
-  of_join u _ h own = inl refl
-  of_join u _ h (read y k) = cc
-  of_join u _ h (write y k) = cc
-  of_join u _ h (write_after_read y v k) = cc
-  of_join u _ h (acquire l k) = cc
-  of_join u _ h (join v k a) = let same : v ≡ u = cc in inr (ap OfThread same, subst (HasActed trace n) same a)
-
-  of_write : (x : ℕ) (s : Slot) → e.what ≡ Write x → Source trace n e s → (s ≡ OfThread e.thread) ⊎ ((s ≡ LastWrite x) ⊎ ((u : ℕ) × (s ≡ LastRead x u)))
-  of_write x _ h own = inl refl
-  of_write x _ h (read y k) = cc
-  of_write x _ h (write y k) = inr (inl cc)
-  of_write x _ h (write_after_read y u k) = inr (inr (u, cc))
-  of_write x _ h (acquire l k) = cc
-  of_write x _ h (join u k a) = cc
-
   -- a join
   joined_mark : (u q : ℕ) → e.what ≡ Join u → (a : HasActed trace n u) → last_event trace n (OfThread u) ≡ Some q → IfOther trace n e.thread (OfThread u) (mark u q ∷ [])
   joined_mark u q h a last =
@@ -170,12 +129,6 @@ module _ (trace : List Numbered) (ok : IsWellFormed trace) (n : ℕ) (e : Number
       (other q k.event last (ap (slice_get trace) (sym place) ∙ k.event_at) (λ same. joins_other trace ok n u e at h (sym k.thread ∙ same)))
 
   module _ (x : ℕ) (ms rs : List Mark) (h : e.what ≡ Write x) (iff : IfOther trace n e.thread (LastWrite x) ms) (reads : AreReads trace n e.thread x rs) where
-    by_reader : (u q : ℕ) → last_event trace n (LastRead x u) ≡ Some q → (f : Numbered) × (q < n) × (slice_get trace q ≡ Some f) × (f.thread ≡ u) × (f.what ≡ Read x)
-    by_reader u q last =
-        let g = is_last (of_slot (LastRead x u)) trace n q last in
-        let parts = and_parts (g.event.thread == u) (is_read_of x g.event.what) g.passed in
-        (g.event, g.below, g.event_at, eqb-true g.event.thread u parts.0, read_is x g.event.what parts.1)
-
     read_each : (m : Mark) → Contains rs m → IsTaken trace n e m
     read_each m a =
         let r = reads.each m a in
@@ -198,7 +151,7 @@ module _ (trace : List Numbered) (ok : IsWellFormed trace) (n : ℕ) (e : Number
     read_way u q last = ⊎_elim (λ same. by_own (ms ++ rs) q g.0 g.1 g.2 (g.3 ∙ same)) (λ apart. go apart (last_event trace n (LastWrite x)) refl) (cases_eq u e.thread)
       where
         g : (f : Numbered) × (q < n) × (slice_get trace q ≡ Some f) × (f.thread ≡ u) × (f.what ≡ Read x)
-        g = by_reader u q last
+        g = by_reader trace n x u q last
 
         marked : u ≢ e.thread → ((p : ℕ) → last_event trace n (LastWrite x) ≡ Some p → p < q) → Way (ms ++ rs) q
         marked apart after = ⊎_elim (λ a. mark_way (ms ++ rs) u q g.1 (Contains-append_right ms rs (mark u q) a)) (λ passed. inr (inr (record { place = q; passed = passed; reach = stay g.1 }))) (reads.all u q apart last after)
@@ -225,12 +178,12 @@ module _ (trace : List Numbered) (ok : IsWellFormed trace) (n : ℕ) (e : Number
         (λ j. left q (other_way (LastWrite x) ms q iff (subst (λ z. last_event trace n z ≡ Some q) j last)))
         (λ (j : (u : ℕ) × (s ≡ LastRead x u)). read_way j.0 q (subst (λ z. last_event trace n z ≡ Some q) j.1 last))
         k)
-        (of_write x s h source))
+        (of_write trace n e x s h source))
 
   pub stood : (ms : List Mark) → TakesMarks trace n e ms → Stood trace n e ms
-  stood _ (takes.plain h) = stood_alone (λ s. of_plain s h)
-  stood _ (takes.read x ms h iff) = stood_one (LastWrite x) ms (read x h) (λ r. of_read x r h) iff
+  stood _ (takes.plain h) = stood_alone (λ s. of_plain trace n e s h)
+  stood _ (takes.read x ms h iff) = stood_one (LastWrite x) ms (read x h) (λ r. of_read trace n e x r h) iff
   stood _ (takes.write x ms rs h iff reads) = stood_write x ms rs h iff reads
-  stood _ (takes.acquire l ms h iff) = stood_one (LastRelease l) ms (acquire l h) (λ r. of_acquire l r h) iff
-  stood _ (takes.join u q h a last) = stood_one (OfThread u) (mark u q ∷ []) (join u h a) (λ r source. ⊎_elim (λ k. inl k) (λ k. inr k.0) (of_join u r h source)) (joined_mark u q h a last)
-  stood _ (takes.idle_join u h idle) = stood_alone (λ s source. ⊎_elim (λ k. k) (λ k. absurd (idle k.1)) (of_join u s h source))
+  stood _ (takes.acquire l ms h iff) = stood_one (LastRelease l) ms (acquire l h) (λ r. of_acquire trace n e l r h) iff
+  stood _ (takes.join u q h a last) = stood_one (OfThread u) (mark u q ∷ []) (join u h a) (λ r source. ⊎_elim (λ k. inl k) (λ k. inr k.0) (of_join trace n e u r h source)) (joined_mark u q h a last)
+  stood _ (takes.idle_join u h idle) = stood_alone (λ s source. ⊎_elim (λ k. k) (λ k. absurd (idle k.1)) (of_join trace n e u s h source))

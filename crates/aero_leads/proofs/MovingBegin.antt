@@ -8,13 +8,14 @@ use Rattle.aero_model.specs.Blocks.{is_begin, by_thread, depth, opens, closes}
 use Rattle.aero_model.specs.Shape.{IsWellFormed}
 use Rattle.aero_engine.specs.Events.{event}
 use Rattle.aero_engine.proofs.LongerTraces.{slice_get-push, no_end}
+use Rattle.aero_engine.proofs.OneMore.{depth_more}
 use Rattle.aero_leads.specs.Leads.{is_led, IsUnled, AreFirst}
 use Rattle.aero_leads.specs.Marks as takes
 use Rattle.aero_leads.specs.Steps.{lesser, begin_rows}
 use Rattle.aero_leads.specs.States.{State, IsStateOf, acting, Moves}
 use Rattle.aero_leads.proofs.ByKind.{first_as, first_begun}
 use Rattle.aero_leads.proofs.Told.{rows_tell}
-use Rattle.aero_leads.proofs.StateSteps.{IsAfter, depth_more}
+use Rattle.aero_leads.proofs.StateSteps.{IsAfter}
 use Rattle.aero_leads.proofs.StateSteps as steps
 use Rattle.aero_leads.proofs.Placed.{unled_lesser, unled_if}
 use Rattle.aero_leads.proofs.Moving.{swap_and}
@@ -38,7 +39,7 @@ moves_begin old new t outside rows after = record {
         more = h ++ e ∷ []
 
         none_open : depth more t (length h) ≡ 0
-        none_open = let shut : depth h t (length h) ≤ 0 = ltb-false 0 (depth h t (length h)) (sym (stands.in_block t) ∙ outside) in omega (arith, shut, depth_more old h e stands t)
+        none_open = let shut : depth h t (length h) ≤ 0 = ltb-false 0 (depth h t (length h)) (sym (stands.in_block t) ∙ outside) in omega (arith, shut, depth_more h e t)
 
         up : opens more t (length h) ≡ true
         up =

@@ -11,14 +11,14 @@ use Rattle.aero_engine.specs.declared.slot.Slot.TheVariants.{LastWrite, LastRele
 use Rattle.aero_engine.specs.Events.{event, IsIdle}
 use Rattle.aero_engine.specs.Events as idle
 use Rattle.aero_engine.proofs.LongerTraces.{no_end, no_begin}
+use Rattle.aero_engine.proofs.OneMore.{depth_more, place_acted}
 use Rattle.aero_leads.specs.Leads.{is_led}
 use Rattle.aero_leads.specs.Marks as takes
 use Rattle.aero_leads.specs.States.{State, IsLastOf, AreReadsSince, IsStateOf, acting}
 use Rattle.aero_leads.specs.Standing.{AreSame, AreSameBlocks}
 use Rattle.aero_leads.proofs.ByKind.{first_as}
 use Rattle.aero_leads.proofs.Takings.{takes_nothing}
-use Rattle.aero_leads.proofs.StateSteps.{IsAfter, depth_more}
-use Rattle.aero_leads.proofs.Placed.{place_acted}
+use Rattle.aero_leads.proofs.StateSteps.{IsAfter}
 use Rattle.aero_leads.proofs.Moving.{after_quiet, IsTaken, taken_stands}
 
 pub taken_idle : (old : State) (t : ℕ) (what : What) (h : List Numbered) → IsStateOf old h → IsIdle h t what → IsTaken old h (event t what) []
@@ -35,14 +35,14 @@ taken_idle old t _ h stands (idle.inner_begin inside) = record {
   same = λ w. refl;
   ends = no_end h t (Begin None) refl;
   begins = and_right (by_thread t is_begin (slice_get (h ++ event t (Begin None) ∷ []) (length h))) (depth (h ++ event t (Begin None) ∷ []) t (length h) == 0)
-      (ne_eqb (depth (h ++ event t (Begin None) ∷ []) t (length h)) 0 (λ e. absurd (omega (arith, e, inside, depth_more old h (event t (Begin None)) stands t))));
+      (ne_eqb (depth (h ++ event t (Begin None) ∷ []) t (length h)) 0 (λ e. absurd (omega (arith, e, inside, depth_more h (event t (Begin None)) t))));
 }
 taken_idle old t _ h stands (idle.inner_end inside) = record {
   marks = [];
   takes = takes.plain refl;
   same = λ w. refl;
   ends = and_right (by_thread t is_end (slice_get (h ++ event t End ∷ []) (length h))) (depth (h ++ event t End ∷ []) t (length h) == 1)
-      (ne_eqb (depth (h ++ event t End ∷ []) t (length h)) 1 (λ e. absurd (omega (arith, e, inside, depth_more old h (event t End) stands t))));
+      (ne_eqb (depth (h ++ event t End ∷ []) t (length h)) 1 (λ e. absurd (omega (arith, e, inside, depth_more h (event t End) t))));
   begins = no_begin h t End refl;
 }
 taken_idle old t _ h stands (idle.idle_join u not_acted) = record {

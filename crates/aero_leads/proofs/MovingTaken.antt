@@ -8,6 +8,7 @@ use Rattle.aero_model.specs.declared.numbered.What.TheVariants.{Read, Write, Acq
 use Rattle.aero_engine.specs.declared.slot.Slot.TheVariants.{LastWrite, LastRelease}
 use Rattle.aero_engine.specs.Events.{event}
 use Rattle.aero_engine.proofs.LongerTraces.{no_end, no_begin}
+use Rattle.aero_engine.proofs.OneMore.{acted_place}
 use Rattle.aero_leads.specs.declared.last.Last.{Last}
 use Rattle.aero_leads.specs.Leads.{Rows}
 use Rattle.aero_leads.specs.Marks.{mark}
@@ -17,7 +18,7 @@ use Rattle.aero_leads.specs.Kept.{last, is_below, leads_to_any}
 use Rattle.aero_leads.specs.States.{State, IsStateOf}
 use Rattle.aero_leads.proofs.Lasts.{mark_at, marks_of, led_marks, if_other, are_reads}
 use Rattle.aero_leads.proofs.StateSteps as steps
-use Rattle.aero_leads.proofs.Placed.{below_now, led_at_last, acted_place, acted_last}
+use Rattle.aero_leads.proofs.Placed.{below_now, led_at_last, acted_last}
 use Rattle.aero_leads.proofs.Moving.{IsTaken}
 
 one_mark : (rows : Rows) (t w : ℕ) (l : Last) → leads_to_any rows t w (l ∷ []) ≡ led_by rows w (mark_at t l.thread l.count)

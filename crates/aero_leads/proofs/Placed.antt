@@ -1,13 +1,9 @@
 -- Where rows that are right have their places, and to what nothing leads yet.
-use Rattle.std.proofs.Common.{◌≡◌, ◌≢◌, ◌⊎◌, inl, inr, ⊎_elim, ℕ, zero, suc, ◌<◌, List, [], ◌∷◌, ◌++◌, length, Option, Some, None, refl, sym, ap, ◌∙◌, subst, le_refl, arith}
-use Rattle.std.specs.Prelude.{◌==◌, ◌||◌, min, Bool, true, false, if◌then◌else◌, slice_get, is_some}
-use Rattle.std.proofs.lemmas.Bool.{cases_eq, both_ways, eqb-true, eq-eqb, leb-false, lt-ltb, lt-leb, le-leb, or_cases, or_left, or_right}
+use Rattle.std.proofs.Common.{◌≡◌, ◌≢◌, ◌⊎◌, inl, inr, ⊎_elim, ℕ, ◌<◌, List, [], ◌∷◌, Option, Some, None, refl, ap, subst, arith}
+use Rattle.std.specs.Prelude.{◌||◌, min, Bool, true, false, if◌then◌else◌, is_some}
+use Rattle.std.proofs.lemmas.Bool.{cases_eq, both_ways, leb-false, lt-ltb, lt-leb, le-leb}
 use Rattle.aero_model.specs.declared.numbered.Numbered.{Numbered}
 use Rattle.aero_model.specs.Blocks.{depth}
-use Rattle.aero_model.specs.Shape.{has_acted}
-use Rattle.aero_model.proofs.Stability.{agree_front}
-use Rattle.std.specs.List.{list_any}
-use Rattle.std.proofs.lemmas.Option.{same_Some}
 use Rattle.aero_engine.specs.declared.slot.Slot.TheVariants.{OfThread}
 use Rattle.aero_engine.specs.Slots.{of_slot, last_event}
 use Rattle.aero_engine.specs.Takes.{HasActed}
@@ -57,35 +53,6 @@ led_by_open trace n rows first w (m ∷ ms) h = go (led_by_open trace n rows fir
     go : (led_by rows w ms ≡ true → 0 < depth trace w n) → (b : Bool) → is_led (rows m.thread w) m.place ≡ b → (b || led_by rows w ms) ≡ true → 0 < depth trace w n
     go on true e k = open_of trace n rows first m.thread w (led_some (rows m.thread w) m.place e)
     go on false e k = on k
-
--- places of a list that pass a test
-place_of : (p : Numbered → Bool) (xs : List Numbered) → list_any p xs ≡ true → (i : ℕ) × (f : Numbered) × (i < length xs) × (slice_get xs i ≡ Some f) × (p f ≡ true)
-place_of p [] h = cc
-place_of p (x ∷ xs) h =
-    ⊎_elim
-    (λ e. (0, x, omega arith, refl, e))
-    (λ e. let r = place_of p xs e in (suc r.0, r.1, omega (arith, r.2), r.3, r.4))
-    (or_cases (p x) (list_any p xs) h)
-
-of_place : (p : Numbered → Bool) (xs : List Numbered) (i : ℕ) (f : Numbered) → slice_get xs i ≡ Some f → p f ≡ true → list_any p xs ≡ true
-of_place p [] i f at h = cc
-of_place p (x ∷ xs) zero f at h = or_left _ _ (ap p (same_Some x f at) ∙ h)
-of_place p (x ∷ xs) (suc i) f at h = or_right _ _ (of_place p xs i f at h)
-
-pub acted_place : (h : List Numbered) (e : Numbered) (u : ℕ) → has_acted h u ≡ true → HasActed (h ++ e ∷ []) (length h) u
-acted_place h e u acted =
-    let r = place_of (λ f. f.thread == u) h acted in
-    record {
-      place = r.0;
-      below = r.2;
-      event = r.1;
-      event_at = sym ((agree_front (length h) h (e ∷ []) (le_refl (length h))).same r.0 r.2) ∙ r.3;
-      thread = eqb-true r.1.thread u r.4;
-    }
-
-pub place_acted : (h : List Numbered) (e : Numbered) (u : ℕ) → HasActed (h ++ e ∷ []) (length h) u → has_acted h u ≡ true
-place_acted h e u a =
-    of_place (λ f. f.thread == u) h a.place a.event ((agree_front (length h) h (e ∷ []) (le_refl (length h))).same a.place a.below ∙ a.event_at) (eq-eqb a.event.thread u a.thread)
 
 -- the last place of a thread that has acted
 pub acted_last : (trace : List Numbered) (n u : ℕ) → HasActed trace n u → (q : ℕ) × (last_event trace n (OfThread u) ≡ Some q)

@@ -1,16 +1,14 @@
 -- What is kept of a trace, after one more event.
-use Rattle.std.proofs.Common.{◌≡◌, ◌≢◌, ◌⊎◌, inl, inr, ⊎_elim, ℕ, zero, suc, ◌+◌, ◌<◌, ◌≤◌, List, [], ◌∷◌, ◌++◌, length, Option, None, Some, refl, sym, ap, ap₂, ◌∙◌, subst, le_refl, arith, length-append}
-use Rattle.std.specs.Prelude.{◌==◌, ◌&&◌, ◌||◌, nat_lt, Bool, true, false, if◌then◌else◌, Contains}
-use Rattle.std.proofs.lemmas.Bool.{cases_Bool, cases_eq, eq-eqb, ne_eqb, lt-ltb, le-ltb, lt-leb, ltb-false, cond-true, cond-false, and_left, and_right, and_from}
+use Rattle.std.proofs.Common.{◌≡◌, ◌≢◌, ◌⊎◌, inl, inr, ⊎_elim, ℕ, zero, suc, ◌+◌, ◌<◌, ◌≤◌, List, [], ◌∷◌, ◌++◌, length, Option, None, Some, refl, sym, ap, ap₂, ◌∙◌, subst, le_refl, arith}
+use Rattle.std.specs.Prelude.{◌==◌, ◌&&◌, nat_lt, Bool, true, false, if◌then◌else◌, Contains}
+use Rattle.std.proofs.lemmas.Bool.{cases_Bool, cases_eq, eq-eqb, ne_eqb, lt-leb, ltb-false, cond-true, cond-false, and_left, and_right, and_from}
 use Rattle.std.proofs.lemmas.Option.{same_Some}
-use Rattle.std.proofs.lemmas.List.Folds.{list_any-append}
 use Rattle.aero_model.specs.declared.numbered.Numbered.{Numbered}
-use Rattle.aero_model.specs.Blocks.{is_begin, is_end, by_thread, depth, opens, closes, blocks}
+use Rattle.aero_model.specs.Blocks.{depth, opens, closes, blocks}
 use Rattle.aero_model.specs.Cycle.{HasTellingCycle}
-use Rattle.aero_model.specs.Shape.{is_release_of, has_acted}
+use Rattle.aero_model.specs.Shape.{is_release_of}
 use Rattle.aero_model.proofs.Elements.{none_in}
-use Rattle.aero_model.proofs.Stability.{Agree, agree_front, depth_same, blocks_same}
-use Rattle.aero_model.proofs.Depths.{step, AtOpening, AtClosing, AtOther}
+use Rattle.aero_model.proofs.Stability.{Agree, agree_front}
 use Rattle.aero_model.proofs.Telling.{telling_back}
 use Rattle.aero_engine.specs.declared.slot.Slot.{Slot}
 use Rattle.aero_engine.specs.declared.slot.Slot.TheVariants.{LastWrite, LastRead, LastRelease}
@@ -18,6 +16,7 @@ use Rattle.aero_engine.specs.Slots.{of_slot, is_read_of, is_write_of, last_event
 use Rattle.aero_engine.specs.Events.{thread_of}
 use Rattle.aero_engine.proofs.LastEvents.{read_is, is_last, last_covers, last_new, last_kept}
 use Rattle.aero_engine.proofs.LongerTraces.{slice_get-push, last_event_same}
+use Rattle.aero_engine.proofs.OneMore.{length_more, opens_by, closes_by, begins_more, inside_more, acted_more}
 use Rattle.aero_leads.specs.declared.last.Last.{Last}
 use Rattle.aero_leads.specs.Leads.{Rows, is_led, IsUnled, AreFirst}
 use Rattle.aero_leads.specs.Marks.{IsReadAt}
@@ -61,24 +60,18 @@ module _ (old : State) (before : List Numbered) (e : Numbered) (stands : IsState
   pub agree : Agree n before more
   agree = agree_front n before (e ∷ []) (le_refl n)
 
-  pub length_more : suc n ≡ length more
-  length_more = omega (arith, length-append before (e ∷ []))
-
   pub first : AreFirst more n old.rows
   first = rows_same n before more agree old.rows stands.first
 
   pub none : ¬ HasTellingCycle more n
   none c = stands.none (telling_back before (e ∷ []) n (le_refl n) c)
 
-  pub depth_more : (t : ℕ) → depth more t n ≡ depth before t n
-  depth_more t = sym (depth_same before more t n agree)
-
   -- the last event of a slot
   kept_last : (s : Slot) → of_slot s e ≡ false → last_event more (length more) s ≡ last_event before n s
-  kept_last s b = ap (λ m. last_event more m s) (sym length_more) ∙ last_kept (of_slot s) more n e (slice_get-push before e) b ∙ sym (last_event_same n before more agree s)
+  kept_last s b = ap (λ m. last_event more m s) (sym (length_more before e)) ∙ last_kept (of_slot s) more n e (slice_get-push before e) b ∙ sym (last_event_same n before more agree s)
 
   new_last : (s : Slot) → of_slot s e ≡ true → last_event more (length more) s ≡ Some n
-  new_last s b = ap (λ m. last_event more m s) (sym length_more) ∙ last_new (of_slot s) more n e (slice_get-push before e) b
+  new_last s b = ap (λ m. last_event more m s) (sym (length_more before e)) ∙ last_new (of_slot s) more n e (slice_get-push before e) b
 
   carried : (s : Slot) (t c : ℕ) → of_slot s e ≡ false → IsLastAt before s t c → IsLastAt more s t c
   carried s t zero b h = kept_last s b ∙ h
@@ -112,7 +105,7 @@ module _ (old : State) (before : List Numbered) (e : Numbered) (stands : IsState
         no_read u b = and_right (e.thread == u) (is_read_of x e.what) b
 
         still_read : (l : Last) → Contains (old.reads x) l → (p : ℕ) × (l.count ≡ suc p) × IsReadAt more (length more) x l.thread p
-        still_read l a = let i = was.each l a in (i.0, i.1, read_on (length more) (omega (arith, length_more)) x l.thread i.0 i.2)
+        still_read l a = let i = was.each l a in (i.0, i.1, read_on (length more) (omega (arith, length_more before e)) x l.thread i.0 i.2)
 
         -- a last read before the event is a kept one, or nothing leads to it
         before_all : (u q : ℕ) → last_event before n (LastRead x u) ≡ Some q → ((p : ℕ) → last_event before n (LastWrite x) ≡ Some p → p < q) → Contains (old.reads x) (last u (suc q)) ⊎ IsUnled rows u q
@@ -124,7 +117,7 @@ module _ (old : State) (before : List Numbered) (e : Numbered) (stands : IsState
           all = λ u q at after.
               let less = after n (new_last (LastWrite x) b) in
               let i = is_last (of_slot (LastRead x u)) more (length more) q at in
-              absurd (omega (arith, less, i.below, length_more));
+              absurd (omega (arith, less, i.below, length_more before e));
         }
 
         -- a read that is kept and is no earlier than a last one is that one
@@ -165,7 +158,7 @@ module _ (old : State) (before : List Numbered) (e : Numbered) (stands : IsState
         }
           where
             read_now : IsReadAt more (length more) x e.thread n
-            read_now = record { below = omega (arith, length_more); event = e; event_at = slice_get-push before e; thread = refl; reads = read_is x e.what b }
+            read_now = record { below = omega (arith, length_more before e); event = e; event_at = slice_get-push before e; thread = refl; reads = read_is x e.what b }
 
         neither : is_write_of x e.what ≡ false → is_read_of x e.what ≡ false → AreReadsSince more rows x (old.reads x)
         neither quiet b = record {
@@ -179,83 +172,16 @@ module _ (old : State) (before : List Numbered) (e : Numbered) (stands : IsState
 
   -- the threads' blocks
   module _ (new : State) (up down : Bool) (opening : opens more e.thread n ≡ up) (closing : closes more e.thread n ≡ down) (after : IsAfter old new e up down) where
-    opens_by : (t : ℕ) → opens more t n ≡ ((e.thread == t) && up)
-    opens_by t =
-        ⊎_elim
-        (λ same. ap (λ v. opens more v n) (sym same) ∙ opening ∙ ap (λ b. b && up) (sym (eq-eqb e.thread t same)))
-        (λ ne.
-        ap (λ a. by_thread t is_begin a && (depth more t n == 0)) (slice_get-push before e)
-        ∙ and_left _ _ (and_left (e.thread == t) (is_begin e.what) (ne_eqb e.thread t ne))
-        ∙ ap (λ b. b && up) (sym (ne_eqb e.thread t ne)))
-        (cases_eq e.thread t)
-
-    closes_by : (t : ℕ) → closes more t n ≡ ((e.thread == t) && down)
-    closes_by t =
-        ⊎_elim
-        (λ same. ap (λ v. closes more v n) (sym same) ∙ closing ∙ ap (λ b. b && down) (sym (eq-eqb e.thread t same)))
-        (λ ne.
-        ap (λ a. by_thread t is_end a && (depth more t n == 1)) (slice_get-push before e)
-        ∙ and_left _ _ (and_left (e.thread == t) (is_end e.what) (ne_eqb e.thread t ne))
-        ∙ ap (λ b. b && down) (sym (ne_eqb e.thread t ne)))
-        (cases_eq e.thread t)
-
-    record Agrees (t : ℕ) : Type 0 where
-      begins : new.begins t ≡ blocks more t (suc n)
-      in_block : new.in_block t ≡ nat_lt 0 (depth more t (suc n))
-
-    same_begins : (t : ℕ) → old.begins t ≡ blocks more t n
-    same_begins t = stands.begins t ∙ blocks_same n before more agree t n (le_refl n)
-
-    agrees : (t : ℕ) → Agrees t
-    agrees t = go (step more t n)
-      where
-        go : AtOpening more t n ⊎ (AtClosing more t n ⊎ AtOther more t n) → Agrees t
-        go (inl s) =
-            let b : ((e.thread == t) && up) ≡ true = sym (opens_by t) ∙ s.opens in
-            record {
-              begins = after.begins t ∙ cond-true ((e.thread == t) && up) _ _ b ∙ ap (λ m. m + 1) (same_begins t) ∙ sym s.number;
-              in_block = after.in_block t ∙ cond-true ((e.thread == t) && up) _ _ b ∙ sym (lt-ltb 0 (depth more t (suc n)) (omega (arith, s.after)));
-            }
-        go (inr (inl s)) =
-            let a : ((e.thread == t) && up) ≡ false = sym (opens_by t) ∙ s.opens in
-            let b : ((e.thread == t) && down) ≡ true = sym (closes_by t) ∙ s.closes in
-            record {
-              begins = after.begins t ∙ cond-false ((e.thread == t) && up) _ _ a ∙ same_begins t ∙ sym s.number;
-              in_block = after.in_block t ∙ cond-false ((e.thread == t) && up) _ _ a ∙ cond-true ((e.thread == t) && down) _ _ b ∙ sym (le-ltb 0 (depth more t (suc n)) (omega (arith, s.after)));
-            }
-        go (inr (inr s)) =
-            let a : ((e.thread == t) && up) ≡ false = sym (opens_by t) ∙ s.opens in
-            let b : ((e.thread == t) && down) ≡ false = sym (closes_by t) ∙ s.closes in
-            record {
-              begins = after.begins t ∙ cond-false ((e.thread == t) && up) _ _ a ∙ same_begins t ∙ sym s.number;
-              in_block = after.in_block t ∙ cond-false ((e.thread == t) && up) _ _ a ∙ cond-false ((e.thread == t) && down) _ _ b ∙ stands.in_block t ∙ ap (nat_lt 0) (sym (depth_more t)) ∙ still s (cases_eq (depth more t n) 0);
-            }
-          where
-            still : AtOther more t n → (depth more t n ≡ 0) ⊎ (depth more t n ≢ 0) → nat_lt 0 (depth more t n) ≡ nat_lt 0 (depth more t (suc n))
-            still s (inl z) = le-ltb 0 (depth more t n) (omega (arith, z)) ∙ sym (le-ltb 0 (depth more t (suc n)) (omega (arith, s.outside z)))
-            still s (inr z) = let inside : 0 < depth more t n = omega (arith, z) in lt-ltb 0 (depth more t n) inside ∙ sym (lt-ltb 0 (depth more t (suc n)) (s.inside inside))
-
-    acted_new : (t : ℕ) → new.acted t ≡ has_acted more t
-    acted_new t =
-        after.acted t ∙ ap (λ b. if e.thread == t then true else b) (stands.acted t) ∙ either_one (e.thread == t) (has_acted before t)
-        ∙ sym (list_any-append (λ (f : Numbered). f.thread == t) before (e ∷ []))
-      where
-        either_one : (b c : Bool) → (if b then true else c) ≡ (c || (b || false))
-        either_one true true = refl
-        either_one true false = refl
-        either_one false true = refl
-        either_one false false = refl
-
     -- with rows that are right, and no telling cycle, all is right
     pub stands_after : ((u q : ℕ) → q < n → IsUnled old.rows u q → IsUnled new.rows u q) → AreFirst more (suc n) new.rows → ¬ HasTellingCycle more (suc n) → IsStateOf new more
     stands_after still rows no_cycle = record {
-      first = subst (λ m. AreFirst more m new.rows) length_more rows;
-      none = subst (λ m. ¬ HasTellingCycle more m) length_more no_cycle;
+      first = subst (λ m. AreFirst more m new.rows) (length_more before e) rows;
+      none = subst (λ m. ¬ HasTellingCycle more m) (length_more before e) no_cycle;
       write = λ x. last_pushed (LastWrite x) (old.write x) (new.write x) (stands.write x) (after.write x);
       reads = λ x. reads_pushed new.rows still x (new.reads x) (after.reads x);
       release = λ l. last_pushed (LastRelease l) (old.release l) (new.release l) (stands.release l) (after.release l);
-      now = after.now ∙ ap suc stands.now ∙ length_more;
-      acted = acted_new;
-      begins = λ t. (agrees t).begins ∙ ap (blocks more t) length_more;
-      in_block = λ t. (agrees t).in_block ∙ ap (λ m. nat_lt 0 (depth more t m)) length_more;
+      now = after.now ∙ ap suc stands.now ∙ length_more before e;
+      acted = λ t. after.acted t ∙ acted_more before e t (old.acted t) (stands.acted t);
+      begins = λ t. after.begins t ∙ begins_more before e t (old.begins t) ((e.thread == t) && up) (opens_by before e up opening t) (stands.begins t) ∙ ap (blocks more t) (length_more before e);
+      in_block = λ t. after.in_block t ∙ inside_more before e t (old.in_block t) ((e.thread == t) && up) ((e.thread == t) && down) (opens_by before e up opening t) (closes_by before e down closing t) (stands.in_block t) ∙ ap (λ m. nat_lt 0 (depth more t m)) (length_more before e);
     }

@@ -3,8 +3,8 @@ use Rattle.std.proofs.Common.{◌≡◌, ◌≢◌, ◌⊎◌, inl, inr, ℕ, ze
 use Rattle.std.specs.Prelude.{◌==◌, ◌&&◌, ◌||◌, Bool, true, false, is_some, if◌then◌else◌, slice_get, slice_set}
 use Rattle.std.specs.List.{list_any}
 use Rattle.std.proofs.lemmas.Bool.{cases_eq, eqb-true, eq-eqb, ne_eqb, cond-true, cond-false, and_left}
-use Rattle.std.proofs.lemmas.Option.{slice_get_within, slice_get_past, same_Some}
-use Rattle.aero_engine.proofs.Written.{slice_get-set}
+use Rattle.std.proofs.lemmas.Option.{slice_get_past, same_Some}
+use Rattle.aero_engine.proofs.Written.{written, unwritten, rewritten}
 use Rattle.aero_leads.specs.declared.thread.Thread.{Thread}
 use Rattle.aero_leads.specs.declared.led.Led.{Led}
 use Rattle.aero_leads.specs.Listed.{is_listed, IsListedRow, AreListed, Grows}
@@ -14,26 +14,10 @@ use Rattle.aero_leads.specs.Kept.{least_in, thread_row, thread_in_block, thread_
 use Rattle.aero_leads.proofs.Leasts.{lesser_none}
 
 module _ (threads : List Thread) (t : ℕ) (old new : Thread) (at : slice_get threads t ≡ Some old) where
-  -- what it has now
-  pub written : {X : Type 0} (f : Option Thread → X) (u : ℕ) → f (slice_get (slice_set threads t new) u) ≡ (if t == u then f (Some new) else f (slice_get threads u))
-  written f u = ap f (slice_get-set threads t new u (slice_get_within threads t old at)) ∙ go (t == u)
-    where
-      go : (b : Bool) → f (if b then Some new else slice_get threads u) ≡ (if b then f (Some new) else f (slice_get threads u))
-      go true = refl
-      go false = refl
-
-  -- the old one's, where they differ in nothing
-  pub unwritten : {X : Type 0} (f : Option Thread → X) (u : ℕ) → f (Some new) ≡ f (Some old) → f (slice_get (slice_set threads t new) u) ≡ f (slice_get threads u)
-  unwritten f u h = written f u ∙ go (cases_eq t u)
-    where
-      go : (t ≡ u) ⊎ (t ≢ u) → (if t == u then f (Some new) else f (slice_get threads u)) ≡ f (slice_get threads u)
-      go (inl e) = cond-true (t == u) _ _ (eq-eqb t u e) ∙ h ∙ ap f (sym at) ∙ ap (λ v. f (slice_get threads v)) e
-      go (inr e) = cond-false (t == u) _ _ (ne_eqb t u e)
-
   -- a row that takes over what led to a block
   pub absorbed_at : (es : ℕ → Option ℕ) (x : ℕ) → ((w : ℕ) → least_in new.row.items w ≡ absorbed es (least_in old.row.items) x w)
       → (v w : ℕ) → rows_in (slice_set threads t new) v w ≡ (if t == v then absorbed es (rows_in threads v) x w else rows_in threads v w)
-  absorbed_at es x row v w = written (λ p. least_in (thread_row p) w) v ∙ go (cases_eq t v)
+  absorbed_at es x row v w = written threads t old new at (λ p. least_in (thread_row p) w) v ∙ go (cases_eq t v)
     where
       go : (t ≡ v) ⊎ (t ≢ v) → (if t == v then least_in new.row.items w else rows_in threads v w) ≡ (if t == v then absorbed es (rows_in threads v) x w else rows_in threads v w)
       go (inl e) =
@@ -43,7 +27,7 @@ module _ (threads : List Thread) (t : ℕ) (old new : Thread) (at : slice_get th
 
   -- a row that has each block once
   pub single_at : (IsSingle old.row.items → IsSingle new.row.items) → AreSingle threads → AreSingle (slice_set threads t new)
-  single_at row are v = subst IsSingle (sym (written thread_row v)) (go (t == v))
+  single_at row are v = subst IsSingle (sym (written threads t old new at thread_row v)) (go (t == v))
     where
       go : (b : Bool) → IsSingle (if b then new.row.items else thread_row (slice_get threads v))
       go true = row (subst IsSingle (ap thread_row at) (are t))
@@ -51,9 +35,9 @@ module _ (threads : List Thread) (t : ℕ) (old new : Thread) (at : slice_get th
 
   pub same_blocks : new.in_block ≡ old.in_block → new.begins ≡ old.begins → new.acted ≡ old.acted → HaveSameBlocks threads (slice_set threads t new)
   same_blocks inside begins acted = record {
-    in_block = λ u. unwritten thread_in_block u inside;
-    begins = λ u. unwritten thread_begins u begins;
-    acted = λ u. unwritten thread_acted u acted;
+    in_block = λ u. unwritten threads t old new at thread_in_block u inside;
+    begins = λ u. unwritten threads t old new at thread_begins u begins;
+    acted = λ u. unwritten threads t old new at thread_acted u acted;
   }
 
   pub listed_at : (led more : Led) → Grows led more → (IsListedRow old.row.items led t → IsListedRow new.row.items more t) → AreListed threads led → AreListed (slice_set threads t new) more
@@ -65,8 +49,8 @@ module _ (threads : List Thread) (t : ℕ) (old new : Thread) (at : slice_get th
       go : (t ≡ o) ⊎ (t ≢ o) → is_listed more w o ≡ true
       go (inl e) =
           ap (is_listed more w) (sym e)
-          ∙ row here w (λ f. ne (f ∙ e)) (ap is_some (sym (written (λ p. least_in (thread_row p) w) o ∙ cond-true (t == o) _ _ (eq-eqb t o e))) ∙ some)
-      go (inr e) = grows w o (h o w ne (ap is_some (sym (written (λ p. least_in (thread_row p) w) o ∙ cond-false (t == o) _ _ (ne_eqb t o e))) ∙ some))
+          ∙ row here w (λ f. ne (f ∙ e)) (ap is_some (sym (written threads t old new at (λ p. least_in (thread_row p) w) o ∙ cond-true (t == o) _ _ (eq-eqb t o e))) ∙ some)
+      go (inr e) = grows w o (h o w ne (ap is_some (sym (written threads t old new at (λ p. least_in (thread_row p) w) o ∙ cond-false (t == o) _ _ (ne_eqb t o e))) ∙ some))
 
   -- the thread begins a block of its own
   pub listed_begin : (led : Led) → ((w : ℕ) → w ≢ t → least_in new.row.items w ≡ least_in old.row.items w) → AreListed threads led → AreListed (slice_set threads t new) led
@@ -77,10 +61,10 @@ module _ (threads : List Thread) (t : ℕ) (old new : Thread) (at : slice_get th
 
   pub begins_block : (place : ℕ) → ((w : ℕ) → least_in new.row.items w ≡ (if t == w then lesser (least_in old.row.items w) (Some place) else least_in old.row.items w)) → new.in_block ≡ true → new.begins ≡ old.begins + 1 → new.acted ≡ old.acted → BeginsBlock threads (slice_set threads t new) t place
   begins_block place row inside begins acted = record {
-    rows = λ o w. written (λ p. least_in (thread_row p) w) o ∙ rows o w (cases_eq t o);
-    in_block = λ u. written thread_in_block u ∙ ap (λ b. if t == u then b else thread_in_block (slice_get threads u)) inside;
-    begins = λ u. written thread_begins u ∙ counts u (cases_eq t u);
-    acted = λ u. unwritten thread_acted u acted;
+    rows = λ o w. written threads t old new at (λ p. least_in (thread_row p) w) o ∙ rows o w (cases_eq t o);
+    in_block = λ u. written threads t old new at thread_in_block u ∙ ap (λ b. if t == u then b else thread_in_block (slice_get threads u)) inside;
+    begins = λ u. rewritten threads t old new at thread_begins (λ m. m + 1) u begins;
+    acted = λ u. unwritten threads t old new at thread_acted u acted;
   }
     where
       rows : (o w : ℕ) → (t ≡ o) ⊎ (t ≢ o) → (if t == o then least_in new.row.items w else rows_in threads o w) ≡ (if (o == t) && (t == w) then lesser (rows_in threads o w) (Some place) else rows_in threads o w)
@@ -90,17 +74,13 @@ module _ (threads : List Thread) (t : ℕ) (old new : Thread) (at : slice_get th
           ∙ ap (λ b. if b && (t == w) then lesser (rows_in threads o w) (Some place) else rows_in threads o w) (sym (eq-eqb o t (sym e)))
       rows o w (inr e) = cond-false (t == o) _ _ (ne_eqb t o e) ∙ sym (cond-false ((o == t) && (t == w)) _ _ (and_left (o == t) (t == w) (ne_eqb o t (λ h. e (sym h)))))
 
-      counts : (u : ℕ) → (t ≡ u) ⊎ (t ≢ u) → (if t == u then new.begins else thread_begins (slice_get threads u)) ≡ (if t == u then thread_begins (slice_get threads u) + 1 else thread_begins (slice_get threads u))
-      counts u (inl e) = cond-true (t == u) _ _ (eq-eqb t u e) ∙ begins ∙ ap (λ p. thread_begins p + 1) (sym at) ∙ ap (λ v. thread_begins (slice_get threads v) + 1) e ∙ sym (cond-true (t == u) _ _ (eq-eqb t u e))
-      counts u (inr e) = cond-false (t == u) _ _ (ne_eqb t u e) ∙ sym (cond-false (t == u) _ _ (ne_eqb t u e))
-
   -- after a step that may have changed rows alone, the thread's block ends
   pub ends_block : (before : List Thread) → ((o w : ℕ) → rows_in threads o w ≡ end_rows t (rows_in before) o w) → HaveSameBlocks before threads → new.row ≡ old.row → new.in_block ≡ false → new.begins ≡ old.begins → new.acted ≡ old.acted → EndsBlock before (slice_set threads t new) t
   ends_block before rows same row outside begins acted = record {
-    rows = λ o w. unwritten (λ p. least_in (thread_row p) w) o (ap (λ r. least_in r.items w) row) ∙ rows o w;
-    in_block = λ u. written thread_in_block u ∙ ap₂ (λ a b. if t == u then a else b) outside (same.in_block u);
-    begins = λ u. unwritten thread_begins u begins ∙ same.begins u;
-    acted = λ u. unwritten thread_acted u acted ∙ same.acted u;
+    rows = λ o w. unwritten threads t old new at (λ p. least_in (thread_row p) w) o (ap (λ r. least_in r.items w) row) ∙ rows o w;
+    in_block = λ u. written threads t old new at thread_in_block u ∙ ap₂ (λ a b. if t == u then a else b) outside (same.in_block u);
+    begins = λ u. unwritten threads t old new at thread_begins u begins ∙ same.begins u;
+    acted = λ u. unwritten threads t old new at thread_acted u acted ∙ same.acted u;
   }
 
 -- what led to a block is taken over once

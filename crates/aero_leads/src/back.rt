@@ -14,7 +14,8 @@ use crate::thread::{Thread, row_of};
 pub(crate) fn least_known(threads: &[Thread], t: u32, into: &[bool], led: &Led) -> Option<u32>
     requires listed { AreListed threads.now led.now }
     requires so { (w : ℕ) → seen_at into.now w ≡ true → is_some (rows_in threads.now t w) ≡ true }
-    requires whole { (w : ℕ) → is_some (rows_in threads.now t w) ≡ true → seen_at into.now w ≡ true }
+    requires whole { (w : ℕ) → is_some (rows_in threads.now t w) ≡ true →
+        seen_at into.now w ≡ true }
     ensures { IsLeastBack (rows_in threads.now) t result }
 {
     let mut least = None;
@@ -31,8 +32,10 @@ pub(crate) fn least_known(threads: &[Thread], t: u32, into: &[bool], led: &Led) 
 // Whether the open block of thread u, which is another, leads to thread t, and that of t to u.
 fn is_known_back(threads: &[Thread], t: u32, u: u32, into: &[bool]) -> bool
     requires so { (w : ℕ) → seen_at into.now w ≡ true → is_some (rows_in threads.now t w) ≡ true }
-    requires whole { (w : ℕ) → is_some (rows_in threads.now t w) ≡ true → seen_at into.now w ≡ true }
-    ensures { result ≡ (not (u == t) && (is_some (rows_in threads.now t u) && is_some (rows_in threads.now u t))) }
+    requires whole { (w : ℕ) → is_some (rows_in threads.now t w) ≡ true →
+        seen_at into.now w ≡ true }
+    ensures { result ≡ (not (u == t) &&
+        (is_some (rows_in threads.now t u) && is_some (rows_in threads.now u t))) }
 {
     u != t && is_in(into, u) && has(row_of(threads, u), t)
 }

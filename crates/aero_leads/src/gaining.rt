@@ -1,9 +1,10 @@
 //! How a thread gains what leads to an event of another thread.
-ghost use Rattle.std.specs.Prelude.{◌≡◌, ◌≢◌, ◌<◌, ◌==◌, ℕ, true, false, nat_lt, OnOk, is_some, vec_len, slice_get, length, if◌then◌else◌};
-ghost use Rattle.aero_leads.specs.Kept.{least_in, is_below, rows_in, thread_row, TakesRow, HaveSameBlocks};
-ghost use Rattle.aero_leads.specs.Listed.{IsListedRow, AreListed, Grows};
-ghost use Rattle.aero_leads.specs.Seen.{seen_at, is_whole, AreKnown};
-ghost use Rattle.aero_leads.specs.Single.{IsSingle, AreSingle};
+ghost use Rattle.std.specs.Prelude.{◌≡◌, ◌≢◌, ◌==◌, ℕ, true, false, OnOk, is_some, if◌then◌else◌};
+ghost use Rattle.aero_leads.specs.Gaining.{MayGain, HasGained};
+ghost use Rattle.aero_leads.specs.Kept.{least_in, is_below};
+ghost use Rattle.aero_leads.specs.Listed.{IsListedRow, Grows};
+ghost use Rattle.aero_leads.specs.Seen.{seen_at, is_whole};
+ghost use Rattle.aero_leads.specs.Single.{IsSingle};
 ghost use Rattle.aero_leads.specs.Steps.{gains};
 
 use crate::led::Led;
@@ -31,17 +32,8 @@ pub(crate) fn gain_row(
     t: u32,
     taking: Taking,
 ) -> Result<(), AllocError>
-    requires actor { t < vec_len threads.old }
-    requires other { taking.from ≢ t }
-    requires known { AreKnown threads.old.items seen.old }
-    requires single { AreSingle threads.old.items }
-    ensures gains { OnOk result (TakesRow (rows_in threads.old.items) (rows_in threads.new.items) taking.place t taking.from taking.below) }
-    ensures known { OnOk result (AreKnown threads.new.items seen.new) }
-    ensures listed { AreListed threads.old.items led.old → AreListed threads.new.items led.new }
-    ensures grows { Grows led.old led.new }
-    ensures single { AreSingle threads.new.items }
-    ensures same { HaveSameBlocks threads.old.items threads.new.items }
-    ensures room { vec_len threads.new ≡ vec_len threads.old }
+    requires { MayGain threads.old seen.old t taking }
+    ensures { HasGained threads.old threads.new seen.new led.old led.new t taking result }
 {
     let theirs = openers_of(seen, taking.from);
     let are_whole = is_whole(seen, t) && is_whole(seen, taking.from);
@@ -59,17 +51,8 @@ fn gain_any(
     t: u32,
     taking: Taking,
 ) -> Result<(), AllocError>
-    requires actor { t < vec_len threads.old }
-    requires other { taking.from ≢ t }
-    requires known { AreKnown threads.old.items seen.old }
-    requires single { AreSingle threads.old.items }
-    ensures gains { OnOk result (TakesRow (rows_in threads.old.items) (rows_in threads.new.items) taking.place t taking.from taking.below) }
-    ensures known { OnOk result (AreKnown threads.new.items seen.new) }
-    ensures listed { AreListed threads.old.items led.old → AreListed threads.new.items led.new }
-    ensures grows { Grows led.old led.new }
-    ensures single { AreSingle threads.new.items }
-    ensures same { HaveSameBlocks threads.old.items threads.new.items }
-    ensures room { vec_len threads.new ≡ vec_len threads.old }
+    requires { MayGain threads.old seen.old t taking }
+    ensures { HasGained threads.old threads.new seen.new led.old led.new t taking result }
 {
     let mut row = take_row(threads, t);
     gain_all(&mut row, t, row_of(threads, taking.from), taking, led)?;
@@ -86,19 +69,10 @@ fn gain_unknown(
     t: u32,
     taking: Taking,
 ) -> Result<(), AllocError>
-    requires actor { t < vec_len threads.old }
-    requires other { taking.from ≢ t }
-    requires known { AreKnown threads.old.items seen.old }
-    requires single { AreSingle threads.old.items }
+    requires may { MayGain threads.old seen.old t taking }
     requires mine { is_whole seen.old t ≡ true }
     requires theirs { is_whole seen.old taking.from ≡ true }
-    ensures gains { OnOk result (TakesRow (rows_in threads.old.items) (rows_in threads.new.items) taking.place t taking.from taking.below) }
-    ensures known { OnOk result (AreKnown threads.new.items seen.new) }
-    ensures listed { AreListed threads.old.items led.old → AreListed threads.new.items led.new }
-    ensures grows { Grows led.old led.new }
-    ensures single { AreSingle threads.new.items }
-    ensures same { HaveSameBlocks threads.old.items threads.new.items }
-    ensures room { vec_len threads.new ≡ vec_len threads.old }
+    ensures { HasGained threads.old threads.new seen.new led.old led.new t taking result }
 {
     let mut gainer = Gainer {
         thread: t,
@@ -127,16 +101,25 @@ fn gain_each(
     taking: Taking,
     led: &mut Led,
 ) -> Result<(), AllocError>
-    requires theirs { (w : ℕ) → is_some (least_in other.now w) ≡ true → seen_at theirs.now w ≡ true }
+    requires theirs { (w : ℕ) → is_some (least_in other.now w) ≡ true →
+        seen_at theirs.now w ≡ true }
     requires other { IsSingle other.now }
     requires single { IsSingle gainer.old.row.items }
-    requires so { (w : ℕ) → seen_at gainer.old.known.openers.items w ≡ true → is_some (least_in gainer.old.row.items w) ≡ true }
-    requires whole { (w : ℕ) → is_some (least_in gainer.old.row.items w) ≡ true → seen_at gainer.old.known.openers.items w ≡ true }
-    ensures gains { OnOk result ((w : ℕ) → least_in gainer.new.row.items w ≡ gains (least_in gainer.old.row.items w) (is_below (least_in other.now w) taking.below) taking.place) }
-    ensures so { OnOk result ((w : ℕ) → seen_at gainer.new.known.openers.items w ≡ true → is_some (least_in gainer.new.row.items w) ≡ true) }
-    ensures whole { OnOk result (gainer.new.known.whole ≡ true → (w : ℕ) → is_some (least_in gainer.new.row.items w) ≡ true → seen_at gainer.new.known.openers.items w ≡ true) }
+    requires so { (w : ℕ) → seen_at gainer.old.known.openers.items w ≡ true →
+        is_some (least_in gainer.old.row.items w) ≡ true }
+    requires whole { (w : ℕ) → is_some (least_in gainer.old.row.items w) ≡ true →
+        seen_at gainer.old.known.openers.items w ≡ true }
+    ensures gains { OnOk result ((w : ℕ) →
+        least_in gainer.new.row.items w ≡ gains (least_in gainer.old.row.items w)
+        (is_below (least_in other.now w) taking.below) taking.place) }
+    ensures so { OnOk result ((w : ℕ) → seen_at gainer.new.known.openers.items w ≡ true →
+        is_some (least_in gainer.new.row.items w) ≡ true) }
+    ensures whole { OnOk result (gainer.new.known.whole ≡ true → (w : ℕ) →
+        is_some (least_in gainer.new.row.items w) ≡ true →
+        seen_at gainer.new.known.openers.items w ≡ true) }
     ensures single { OnOk result (IsSingle gainer.new.row.items) }
-    ensures listed { IsListedRow gainer.old.row.items led.old gainer.old.thread → IsListedRow gainer.new.row.items led.new gainer.new.thread }
+    ensures listed { IsListedRow gainer.old.row.items led.old gainer.old.thread →
+        IsListedRow gainer.new.row.items led.new gainer.new.thread }
     ensures grows { Grows led.old led.new }
     ensures thread { gainer.new.thread ≡ gainer.old.thread }
 {
@@ -158,13 +141,21 @@ fn gain_lead(
 ) -> Result<(), AllocError>
     requires absent { is_some (least_in gainer.old.row.items at) ≡ false }
     requires other { IsSingle other.now }
-    ensures gains { OnOk result ((w : ℕ) → least_in gainer.new.row.items w ≡ gains (least_in gainer.old.row.items w) (if at == w then is_below (least_in other.now w) taking.below else false) taking.place) }
-    ensures others { (w : ℕ) → w ≢ at → seen_at gainer.new.known.openers.items w ≡ seen_at gainer.old.known.openers.items w }
-    ensures so { OnOk result (seen_at gainer.old.known.openers.items at ≡ false → seen_at gainer.new.known.openers.items at ≡ true → is_some (least_in gainer.new.row.items at) ≡ true) }
+    ensures gains { OnOk result ((w : ℕ) →
+        least_in gainer.new.row.items w ≡ gains (least_in gainer.old.row.items w)
+        (if at == w then is_below (least_in other.now w) taking.below else false) taking.place) }
+    ensures others { (w : ℕ) → w ≢ at →
+        seen_at gainer.new.known.openers.items w ≡ seen_at gainer.old.known.openers.items w }
+    ensures so { OnOk result (seen_at gainer.old.known.openers.items at ≡ false →
+        seen_at gainer.new.known.openers.items at ≡ true →
+        is_some (least_in gainer.new.row.items at) ≡ true) }
     ensures whole { gainer.new.known.whole ≡ true → gainer.old.known.whole ≡ true }
-    ensures here { OnOk result (gainer.new.known.whole ≡ true → is_some (least_in gainer.new.row.items at) ≡ true → seen_at gainer.new.known.openers.items at ≡ true) }
+    ensures here { OnOk result (gainer.new.known.whole ≡ true →
+        is_some (least_in gainer.new.row.items at) ≡ true →
+        seen_at gainer.new.known.openers.items at ≡ true) }
     ensures single { OnOk result (IsSingle gainer.old.row.items → IsSingle gainer.new.row.items) }
-    ensures listed { IsListedRow gainer.old.row.items led.old gainer.old.thread → IsListedRow gainer.new.row.items led.new gainer.new.thread }
+    ensures listed { IsListedRow gainer.old.row.items led.old gainer.old.thread →
+        IsListedRow gainer.new.row.items led.new gainer.new.thread }
     ensures grows { Grows led.old led.new }
     ensures thread { gainer.new.thread ≡ gainer.old.thread }
 {
@@ -177,12 +168,17 @@ fn gain_lead(
 // A block that doesn't lead to the thread yet does from this place on, and that is known.
 fn gain_new(gainer: &mut Gainer, opener: u32, place: u32, led: &mut Led) -> Result<(), AllocError>
     requires { is_some (least_in gainer.old.row.items opener) ≡ false }
-    ensures gains { OnOk result ((w : ℕ) → least_in gainer.new.row.items w ≡ gains (least_in gainer.old.row.items w) (opener == w) place) }
-    ensures others { (w : ℕ) → w ≢ opener → seen_at gainer.new.known.openers.items w ≡ seen_at gainer.old.known.openers.items w }
+    ensures gains { OnOk result ((w : ℕ) →
+        least_in gainer.new.row.items w ≡ gains (least_in gainer.old.row.items w) (opener == w)
+        place) }
+    ensures others { (w : ℕ) → w ≢ opener →
+        seen_at gainer.new.known.openers.items w ≡ seen_at gainer.old.known.openers.items w }
     ensures whole { gainer.new.known.whole ≡ true → gainer.old.known.whole ≡ true }
-    ensures here { OnOk result (gainer.new.known.whole ≡ true → seen_at gainer.new.known.openers.items opener ≡ true) }
+    ensures here { OnOk result (gainer.new.known.whole ≡ true →
+        seen_at gainer.new.known.openers.items opener ≡ true) }
     ensures single { IsSingle gainer.old.row.items → IsSingle gainer.new.row.items }
-    ensures listed { IsListedRow gainer.old.row.items led.old gainer.old.thread → IsListedRow gainer.new.row.items led.new gainer.new.thread }
+    ensures listed { IsListedRow gainer.old.row.items led.old gainer.old.thread →
+        IsListedRow gainer.new.row.items led.new gainer.new.thread }
     ensures grows { Grows led.old led.new }
     ensures thread { gainer.new.thread ≡ gainer.old.thread }
 {

@@ -50,7 +50,8 @@ pub(crate) fn is_up_to(high: Option<u32>, place: u32) -> bool
 
 /// A block leads to thread `t` from this place on.
 pub(crate) fn raise_high(highs: &mut Highs, t: u32, place: u32)
-    ensures more { (o p : ℕ) → is_early (high_of highs.old o) p ≡ true → is_early (high_of highs.new o) p ≡ true }
+    ensures more { (o p : ℕ) → is_early (high_of highs.old o) p ≡ true →
+        is_early (high_of highs.new o) p ≡ true }
     ensures place { is_early (high_of highs.new t) place ≡ true }
 {
     if (t as usize) < highs.places.len() {
@@ -72,7 +73,8 @@ fn higher(high: Option<u32>, place: u32) -> Option<u32>
 /// The block of thread `t` is open no more, and where this is a place, none in the row of the thread is above it. That is known
 /// from now on, unless memory is refused.
 pub(crate) fn settle_high(highs: &mut Highs, t: u32, own: Option<u32>)
-    ensures { (o p : ℕ) → is_early (high_of highs.old o) p ≡ true → (o ≡ t → is_early own p ≡ true) → is_early (high_of highs.new o) p ≡ true }
+    ensures { (o p : ℕ) → is_early (high_of highs.old o) p ≡ true →
+        (o ≡ t → is_early own p ≡ true) → is_early (high_of highs.new o) p ≡ true }
 {
     let Some(place) = own else {
         return;
@@ -83,7 +85,8 @@ pub(crate) fn settle_high(highs: &mut Highs, t: u32, own: Option<u32>)
 }
 
 fn enter_high(highs: &mut Highs, t: u32, place: u32) -> Result<(), AllocError>
-    ensures { OnOk result ((o : ℕ) → high_of highs.new o ≡ (if o == t then Some place else high_of highs.old o)) }
+    ensures { OnOk result ((o : ℕ) →
+        high_of highs.new o ≡ (if o == t then Some place else high_of highs.old o)) }
 {
     reach(&mut highs.places, t)?;
     highs.places[t as usize] = Some(place);
@@ -92,7 +95,8 @@ fn enter_high(highs: &mut Highs, t: u32, place: u32) -> Result<(), AllocError>
 
 fn reach(places: &mut Vec<Option<u32>>, t: u32) -> Result<(), AllocError>
     ensures room { OnOk result (t < vec_len places.new) }
-    ensures same { (o : ℕ) → high_in (slice_get places.new.items o) ≡ high_in (slice_get places.old.items o) }
+    ensures same { (o : ℕ) → high_in (slice_get places.new.items o) ≡
+        high_in (slice_get places.old.items o) }
 {
     let at = t as usize;
     while places.len() <= at {

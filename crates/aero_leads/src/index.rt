@@ -29,7 +29,8 @@ pub(crate) fn place_at(index: &Index, w: u32) -> usize
 
 /// The open block of thread `w` stands at this place.
 pub(crate) fn enter(index: &mut Index, w: u32, place: usize) -> Result<(), AllocError>
-    ensures { OnOk result ((v : ℕ) → place_of index.new v ≡ (if v == w then place else place_of index.old v)) }
+    ensures { OnOk result ((v : ℕ) →
+        place_of index.new v ≡ (if v == w then place else place_of index.old v)) }
 {
     reach(&mut index.places, w)?;
     index.places[w as usize] = place;
@@ -38,7 +39,8 @@ pub(crate) fn enter(index: &mut Index, w: u32, place: usize) -> Result<(), Alloc
 
 fn reach(places: &mut Vec<usize>, w: u32) -> Result<(), AllocError>
     ensures room { OnOk result (w < vec_len places.new) }
-    ensures same { (v : ℕ) → place_in (slice_get places.new.items v) ≡ place_in (slice_get places.old.items v) }
+    ensures same { (v : ℕ) → place_in (slice_get places.new.items v) ≡
+        place_in (slice_get places.old.items v) }
 {
     let at = w as usize;
     while places.len() <= at {

@@ -103,7 +103,8 @@ impl Kept {
     /// Thread `t` reads variable `x`.
     pub(crate) fn read(&mut self, t: u32, x: u32) -> Result<bool, AllocError>
         requires { HasRoom self.old t }
-        ensures moves { IfOk result (Moves (state_in self.old) (state_in self.new) (event t (Read x))) }
+        ensures moves { IfOk result (Moves (state_in self.old) (state_in self.new)
+            (event t (Read x))) }
         ensures same { AreSameBlocks (state_in self.old) (state_in self.new) }
         ensures room { HasRoom self.new t }
     {
@@ -121,7 +122,8 @@ impl Kept {
     /// Thread `t` writes variable `x`.
     pub(crate) fn write(&mut self, t: u32, x: u32) -> Result<bool, AllocError>
         requires { HasRoom self.old t }
-        ensures moves { IfOk result (Moves (state_in self.old) (state_in self.new) (event t (Write x))) }
+        ensures moves { IfOk result (Moves (state_in self.old) (state_in self.new)
+            (event t (Write x))) }
         ensures same { AreSameBlocks (state_in self.old) (state_in self.new) }
         ensures room { HasRoom self.new t }
     {
@@ -142,7 +144,8 @@ impl Kept {
     /// Thread `t` acquires lock `l`.
     pub(crate) fn acquire(&mut self, t: u32, l: u32) -> Result<bool, AllocError>
         requires { HasRoom self.old t }
-        ensures moves { IfOk result (Moves (state_in self.old) (state_in self.new) (event t (Acquire l))) }
+        ensures moves { IfOk result (Moves (state_in self.old) (state_in self.new)
+            (event t (Acquire l))) }
         ensures same { AreSameBlocks (state_in self.old) (state_in self.new) }
         ensures room { HasRoom self.new t }
     {
@@ -154,7 +157,8 @@ impl Kept {
     /// Thread `t` releases lock `l`.
     pub(crate) fn release(&mut self, t: u32, l: u32) -> Result<(), AllocError>
         requires { HasRoom self.old t }
-        ensures moves { OnOk result (Moves (state_in self.old) (state_in self.new) (event t (Release l)) false) }
+        ensures moves { OnOk result (Moves (state_in self.old) (state_in self.new)
+            (event t (Release l)) false) }
         ensures same { AreSameBlocks (state_in self.old) (state_in self.new) }
         ensures room { HasRoom self.new t }
     {
@@ -168,7 +172,8 @@ impl Kept {
         requires room { HasRoom self.old t }
         requires target { u < vec_len self.old.table.threads }
         requires other { u ≢ t }
-        ensures moves { OnOk result (Moves (state_in self.old) (state_in self.new) (event t (Fork u)) false) }
+        ensures moves { OnOk result (Moves (state_in self.old) (state_in self.new)
+            (event t (Fork u)) false) }
         ensures same { AreSameBlocks (state_in self.old) (state_in self.new) }
         ensures room { HasRoom self.new t }
     {
@@ -181,7 +186,8 @@ impl Kept {
         requires room { HasRoom self.old t }
         requires other { u ≢ t }
         requires acted { (state_in self.old).acted u ≡ true }
-        ensures moves { IfOk result (Moves (state_in self.old) (state_in self.new) (event t (Join u))) }
+        ensures moves { IfOk result (Moves (state_in self.old) (state_in self.new)
+            (event t (Join u))) }
         ensures same { AreSameBlocks (state_in self.old) (state_in self.new) }
         ensures room { HasRoom self.new t }
     {
@@ -198,7 +204,8 @@ impl Kept {
         requires room { HasRoom self.old t }
         requires outside { (state_in self.old).in_block t ≡ false }
         requires count { (state_in self.old).begins t < 2 ^ 32 - 1 }
-        ensures moves { OnOk result (Moves (state_in self.old) (state_in self.new) (event t (Begin None)) false) }
+        ensures moves { OnOk result (Moves (state_in self.old) (state_in self.new)
+            (event t (Begin None)) false) }
         ensures err { OnErr result (AreSameBlocks (state_in self.old) (state_in self.new)) }
         ensures room { HasRoom self.new t }
     {

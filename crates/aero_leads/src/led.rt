@@ -77,7 +77,9 @@ fn hint_at(led: &Led, t: u32, i: usize) -> u32 {
 
 /// The open block of thread `w` leads to thread `o`, in whose row it comes to stand at this place.
 pub(crate) fn note(led: &mut Led, w: u32, o: u32, at: usize) -> Result<(), AllocError>
-    ensures noted { OnOk result ((v : ℕ) → followers led.new v ≡ (if v == w then followers led.old v ++ o ∷ [] else followers led.old v)) }
+    ensures noted { OnOk result ((v : ℕ) →
+        followers led.new v ≡ (if v == w then followers led.old v ++
+        o ∷ [] else followers led.old v)) }
     ensures err { OnErr result ((v : ℕ) → followers led.new v ≡ followers led.old v) }
     ensures index { led.new.index ≡ led.old.index }
 {
@@ -116,7 +118,8 @@ fn empty(threads: &mut Vec<u32>)
 
 fn reach(lists: &mut Vec<Followers>, w: u32) -> Result<(), AllocError>
     ensures room { OnOk result (w < vec_len lists.new) }
-    ensures same { (v : ℕ) → followers_in (slice_get lists.new.items v) ≡ followers_in (slice_get lists.old.items v) }
+    ensures same { (v : ℕ) → followers_in (slice_get lists.new.items v) ≡
+        followers_in (slice_get lists.old.items v) }
 {
     let at = w as usize;
     while lists.len() <= at {

@@ -58,7 +58,8 @@ pub(crate) fn lower(lows: &mut Lows, t: u32, place: u32)
 /// thread's, may begin later. What was kept for them stays true.
 pub(crate) fn raise_all(lows: &mut Lows, threads: &[Thread], led: &Led, w: u32)
     ensures kept { (o : ℕ) → IsLow threads.now lows.old o → IsLow threads.now lows.new o }
-    ensures own { length (thread_row (slice_get threads.now w)) ≤ 32 → IsLow threads.now lows.new w }
+    ensures own { length (thread_row (slice_get threads.now w)) ≤ 32 →
+        IsLow threads.now lows.new w }
 {
     raise_seldom(lows, threads, w);
     let listed = count(led, w);
@@ -74,7 +75,8 @@ const FEW: usize = 32;
 // two looks.
 fn raise_seldom(lows: &mut Lows, threads: &[Thread], o: u32)
     ensures kept { (u : ℕ) → IsLow threads.now lows.old u → IsLow threads.now lows.new u }
-    ensures here { length (thread_row (slice_get threads.now o)) ≤ 32 → IsLow threads.now lows.new o }
+    ensures here { length (thread_row (slice_get threads.now o)) ≤ 32 →
+        IsLow threads.now lows.new o }
 {
     let left = row_of(threads, o).len();
     if left <= FEW || left.is_power_of_two() {
@@ -94,7 +96,8 @@ fn raise(lows: &mut Lows, threads: &[Thread], o: u32)
 }
 
 fn enter_low(lows: &mut Lows, o: u32, low: u32) -> Result<(), AllocError>
-    ensures { OnOk result ((u : ℕ) → low_of lows.new u ≡ (if u == o then low else low_of lows.old u)) }
+    ensures { OnOk result ((u : ℕ) →
+        low_of lows.new u ≡ (if u == o then low else low_of lows.old u)) }
 {
     reach(&mut lows.places, o)?;
     lows.places[o as usize] = low;
@@ -103,7 +106,8 @@ fn enter_low(lows: &mut Lows, o: u32, low: u32) -> Result<(), AllocError>
 
 fn reach(places: &mut Vec<u32>, o: u32) -> Result<(), AllocError>
     ensures room { OnOk result (o < vec_len places.new) }
-    ensures same { (u : ℕ) → low_in (slice_get places.new.items u) ≡ low_in (slice_get places.old.items u) }
+    ensures same { (u : ℕ) → low_in (slice_get places.new.items u) ≡
+        low_in (slice_get places.old.items u) }
 {
     let at = o as usize;
     while places.len() <= at {

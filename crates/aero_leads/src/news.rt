@@ -12,7 +12,8 @@ use crate::row::{Lead, led_below};
 fn differ(theirs: &[bool], mine: &[bool], from: usize, to: usize) -> bool
     requires theirs { to ≤ length theirs.now }
     requires mine { to ≤ length mine.now }
-    ensures { result ≡ false → (w : ℕ) → from ≤ w → w < to → seen_at theirs.now w ≡ true → seen_at mine.now w ≡ true }
+    ensures { result ≡ false → (w : ℕ) → from ≤ w → w < to → seen_at theirs.now w ≡ true →
+        seen_at mine.now w ≡ true }
 {
     let mut news = false;
     for i in from..to {
@@ -43,7 +44,8 @@ fn is_any(openers: &[bool], from: usize) -> bool
 
 /// Whether an opener but this one is in one table and not in the other.
 pub(crate) fn has_others(theirs: &[bool], mine: &[bool], but: u32) -> bool
-    ensures { result ≡ false → (w : ℕ) → w ≢ but → seen_at theirs.now w ≡ true → seen_at mine.now w ≡ true }
+    ensures { result ≡ false → (w : ℕ) → w ≢ but → seen_at theirs.now w ≡ true →
+        seen_at mine.now w ≡ true }
 {
     let but = but as usize;
     let both = theirs.len().min(mine.len());
@@ -58,7 +60,8 @@ const STRETCH: usize = 64;
 // From this opener on, stretches in which all that is in one table is in the other are passed over.
 fn pass_over(theirs: &[bool], mine: &[bool], from: usize) -> usize
     ensures later { from ≤ result }
-    ensures passed { (w : ℕ) → from ≤ w → w < result → seen_at theirs.now w ≡ true → seen_at mine.now w ≡ true }
+    ensures passed { (w : ℕ) → from ≤ w → w < result → seen_at theirs.now w ≡ true →
+        seen_at mine.now w ≡ true }
 {
     let both = theirs.len().min(mine.len());
     let mut at = from;
@@ -71,7 +74,8 @@ fn pass_over(theirs: &[bool], mine: &[bool], from: usize) -> usize
 /// The first opener from this one on that is in one table and not in the other, or one behind all.
 pub(crate) fn next_news(theirs: &[bool], mine: &[bool], from: usize) -> usize
     ensures later { from ≤ result }
-    ensures passed { (w : ℕ) → from ≤ w → w < result → seen_at theirs.now w ≡ true → seen_at mine.now w ≡ true }
+    ensures passed { (w : ℕ) → from ≤ w → w < result → seen_at theirs.now w ≡ true →
+        seen_at mine.now w ≡ true }
     ensures here { result < length theirs.now → seen_at mine.now result ≡ false }
 {
     let mut at = pass_over(theirs, mine, from);
@@ -112,7 +116,8 @@ pub(crate) fn differ_little(theirs: &[bool], mine: &[bool]) -> bool {
 /// Whether an opener is in one table and not in the other, and its block leads below a place of the thread of which this is the row.
 pub(crate) fn has_news(theirs: &[bool], mine: &[bool], other: &[Lead], below: u32) -> bool
     requires { IsSingle other.now }
-    ensures { result ≡ false → (w : ℕ) → seen_at theirs.now w ≡ true → is_below (least_in other.now w) below ≡ true → seen_at mine.now w ≡ true }
+    ensures { result ≡ false → (w : ℕ) → seen_at theirs.now w ≡ true →
+        is_below (least_in other.now w) below ≡ true → seen_at mine.now w ≡ true }
 {
     let mut at = next_news(theirs, mine, 0);
     while at < theirs.len() {

@@ -65,8 +65,10 @@ pub(crate) fn lower_place(passed: &mut Passed, t: u32, place: u32)
 pub(crate) fn note_gain(passed: &mut Passed, led: &Led, t: u32, place: u32)
     ensures less { (u : ℕ) → passed_of passed.new u ≤ passed_of passed.old u }
     ensures own { (o : ℕ) → is_listed led.now t o ≡ true → passed_of passed.new t ≤ place }
-    ensures later { (u p : ℕ) → 0 < passed_of passed.new u → is_early passed.old.latest p ≡ true → p ≤ place }
-    ensures early { (p : ℕ) → is_early passed.old.latest p ≡ true → is_early passed.new.latest p ≡ true }
+    ensures later { (u p : ℕ) → 0 < passed_of passed.new u → is_early passed.old.latest p ≡ true →
+        p ≤ place }
+    ensures early { (p : ℕ) → is_early passed.old.latest p ≡ true →
+        is_early passed.new.latest p ≡ true }
     ensures latest { is_early passed.new.latest place ≡ true }
 {
     if count(led, t) > 0 {
@@ -79,7 +81,8 @@ pub(crate) fn note_gain(passed: &mut Passed, led: &Led, t: u32, place: u32)
 pub(crate) fn note_begin(passed: &mut Passed, led: &Led, t: u32, place: u32)
     ensures others { (u : ℕ) → u ≢ t → passed_of passed.new u ≤ passed_of passed.old u }
     ensures own { (o : ℕ) → is_listed led.now t o ≡ true → passed_of passed.new t ≡ 0 }
-    ensures early { (p : ℕ) → is_early passed.old.latest p ≡ true → is_early passed.new.latest p ≡ true }
+    ensures early { (p : ℕ) → is_early passed.old.latest p ≡ true →
+        is_early passed.new.latest p ≡ true }
     ensures latest { is_early passed.new.latest place ≡ true }
 {
     let before = if count(led, t) == 0 { u32::MAX } else { 0 };
@@ -92,8 +95,10 @@ pub(crate) fn note_begin(passed: &mut Passed, led: &Led, t: u32, place: u32)
 // A row has this place. Nothing is said any more where it isn't known to be the latest.
 fn note_latest(passed: &mut Passed, place: u32)
     ensures less { (u : ℕ) → passed_of passed.new u ≤ passed_of passed.old u }
-    ensures later { (u p : ℕ) → 0 < passed_of passed.new u → is_early passed.old.latest p ≡ true → p ≤ place }
-    ensures early { (p : ℕ) → is_early passed.old.latest p ≡ true → is_early passed.new.latest p ≡ true }
+    ensures later { (u p : ℕ) → 0 < passed_of passed.new u → is_early passed.old.latest p ≡ true →
+        p ≤ place }
+    ensures early { (p : ℕ) → is_early passed.old.latest p ≡ true →
+        is_early passed.new.latest p ≡ true }
     ensures latest { is_early passed.new.latest place ≡ true }
 {
     match passed.latest {
@@ -103,7 +108,8 @@ fn note_latest(passed: &mut Passed, place: u32)
 }
 
 fn enter(passed: &mut Passed, t: u32, before: u32) -> Result<(), AllocError>
-    ensures entered { OnOk result ((u : ℕ) → passed_of passed.new u ≡ (if u == t then before else passed_of passed.old u)) }
+    ensures entered { OnOk result ((u : ℕ) →
+        passed_of passed.new u ≡ (if u == t then before else passed_of passed.old u)) }
     ensures latest { passed.new.latest ≡ passed.old.latest }
 {
     reach(&mut passed.places, t)?;
@@ -113,7 +119,8 @@ fn enter(passed: &mut Passed, t: u32, before: u32) -> Result<(), AllocError>
 
 fn reach(places: &mut Vec<u32>, t: u32) -> Result<(), AllocError>
     ensures room { OnOk result (t < vec_len places.new) }
-    ensures same { (u : ℕ) → passed_in (slice_get places.new.items u) ≡ passed_in (slice_get places.old.items u) }
+    ensures same { (u : ℕ) → passed_in (slice_get places.new.items u) ≡
+        passed_in (slice_get places.old.items u) }
 {
     let at = t as usize;
     while places.len() <= at {

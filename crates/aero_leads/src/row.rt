@@ -117,7 +117,8 @@ pub(crate) struct Taking {
 #[inline(always)]
 pub(crate) fn brought_by(row: &[Lead], other: &[Lead], t: u32, below: u32) -> Brought
     ensures closes { result.closes ≡ is_below (least_in other.now t) below }
-    ensures known { result.news ≡ false → (w : ℕ) → is_below (least_in other.now w) below ≡ true → is_some (least_in row.now w) ≡ true }
+    ensures known { result.news ≡ false → (w : ℕ) → is_below (least_in other.now w) below ≡ true →
+        is_some (least_in row.now w) ≡ true }
 {
     let mut news = false;
     for lead in other.iter() {
@@ -147,7 +148,8 @@ fn is_of(lead: Lead, t: u32, below: u32) -> bool
 #[inline(always)]
 fn is_news(news: bool, row: &[Lead], lead: Lead, below: u32) -> bool
     ensures before { result ≡ false → news ≡ false }
-    ensures here { result ≡ false → lead.place < below → is_some (least_in row.now lead.opener) ≡ true }
+    ensures here { result ≡ false → lead.place < below →
+        is_some (least_in row.now lead.opener) ≡ true }
 {
     if news {
         return true;
@@ -200,9 +202,13 @@ pub(crate) fn add(
     place: u32,
     led: &mut Led,
 ) -> Result<(), AllocError>
-    ensures indexed { OnOk result (IsIndexed row.old.items led.old.index → IsIndexed row.new.items led.new.index) }
-    ensures row { OnOk result ((w : ℕ) → least_in row.new.items w ≡ (if opener == w then lesser (least_in row.old.items w) (Some place) else least_in row.old.items w)) }
-    ensures single { is_some (least_in row.old.items opener) ≡ false → IsSingle row.old.items → IsSingle row.new.items }
+    ensures indexed { OnOk result (IsIndexed row.old.items led.old.index →
+        IsIndexed row.new.items led.new.index) }
+    ensures row { OnOk result ((w : ℕ) →
+        least_in row.new.items w ≡ (if opener == w then lesser (least_in row.old.items w)
+        (Some place) else least_in row.old.items w)) }
+    ensures single { is_some (least_in row.old.items opener) ≡ false → IsSingle row.old.items →
+        IsSingle row.new.items }
     ensures listed { IsListedRow row.old.items led.old o → IsListedRow row.new.items led.new o }
     ensures grows { Grows led.old led.new }
     ensures others { (v : ℕ) → v ≢ opener → followers led.new v ≡ followers led.old v }
@@ -223,7 +229,8 @@ fn gain(
 ) -> Result<(), AllocError>
     requires { IsIndexed row.old.items led.old.index }
     ensures indexed { OnOk result (IsIndexed row.new.items led.new.index) }
-    ensures gains { OnOk result ((w : ℕ) → least_in row.new.items w ≡ gains (least_in row.old.items w) (opener == w) place) }
+    ensures gains { OnOk result ((w : ℕ) →
+        least_in row.new.items w ≡ gains (least_in row.old.items w) (opener == w) place) }
     ensures single { IsSingle row.old.items → IsSingle row.new.items }
     ensures listed { IsListedRow row.old.items led.old o → IsListedRow row.new.items led.new o }
     ensures grows { Grows led.old led.new }
@@ -244,7 +251,9 @@ fn gain_below(
 ) -> Result<(), AllocError>
     requires { IsIndexed row.old.items led.old.index }
     ensures indexed { OnOk result (IsIndexed row.new.items led.new.index) }
-    ensures gains { OnOk result ((w : ℕ) → least_in row.new.items w ≡ gains (least_in row.old.items w) (if lead.opener == w then nat_lt lead.place taking.below else false) taking.place) }
+    ensures gains { OnOk result ((w : ℕ) →
+        least_in row.new.items w ≡ gains (least_in row.old.items w)
+        (if lead.opener == w then nat_lt lead.place taking.below else false) taking.place) }
     ensures single { IsSingle row.old.items → IsSingle row.new.items }
     ensures listed { IsListedRow row.old.items led.old o → IsListedRow row.new.items led.new o }
     ensures grows { Grows led.old led.new }
@@ -263,7 +272,9 @@ pub(crate) fn gain_all(
     taking: Taking,
     led: &mut Led,
 ) -> Result<(), AllocError>
-    ensures gains { OnOk result ((w : ℕ) → least_in row.new.items w ≡ gains (least_in row.old.items w) (is_below (least_in other.now w) taking.below) taking.place) }
+    ensures gains { OnOk result ((w : ℕ) →
+        least_in row.new.items w ≡ gains (least_in row.old.items w)
+        (is_below (least_in other.now w) taking.below) taking.place) }
     ensures single { IsSingle row.old.items → IsSingle row.new.items }
     ensures listed { IsListedRow row.old.items led.old o → IsListedRow row.new.items led.new o }
     ensures grows { Grows led.old led.new }
@@ -278,8 +289,11 @@ pub(crate) fn gain_all(
 // The open block of this thread, which stands here, leads from this place on, or from an earlier one.
 fn lower_at(row: &mut Vec<Lead>, at: usize, opener: u32, place: u32)
     requires { IsFound row.old.items opener (Some at) }
-    ensures openers { (i : ℕ) → opener_of (slice_get row.new.items i) ≡ opener_of (slice_get row.old.items i) }
-    ensures lowers { (w : ℕ) → least_in row.new.items w ≡ (if opener == w then lesser (least_in row.old.items w) (Some place) else least_in row.old.items w) }
+    ensures openers { (i : ℕ) → opener_of (slice_get row.new.items i) ≡
+        opener_of (slice_get row.old.items i) }
+    ensures lowers { (w : ℕ) → least_in row.new.items w ≡
+        (if opener == w then lesser (least_in row.old.items w) (Some place) else least_in
+        row.old.items w) }
     ensures single { IsSingle row.old.items → IsSingle row.new.items }
 {
     let place = place.min(row[at].place);
@@ -297,7 +311,9 @@ fn lower(
 ) -> Result<(), AllocError>
     requires { IsIndexed row.old.items led.old.index }
     ensures indexed { OnOk result (IsIndexed row.new.items led.new.index) }
-    ensures lowers { OnOk result ((w : ℕ) → least_in row.new.items w ≡ (if opener == w then lesser (least_in row.old.items w) (Some place) else least_in row.old.items w)) }
+    ensures lowers { OnOk result ((w : ℕ) →
+        least_in row.new.items w ≡ (if opener == w then lesser (least_in row.old.items w)
+        (Some place) else least_in row.old.items w)) }
     ensures single { IsSingle row.old.items → IsSingle row.new.items }
     ensures listed { IsListedRow row.old.items led.old o → IsListedRow row.new.items led.new o }
     ensures grows { Grows led.old led.new }
@@ -317,11 +333,14 @@ fn lower_all(
     place: u32,
     led: &mut Led,
 ) -> Result<(), AllocError>
-    ensures lowers { OnOk result ((w : ℕ) → least_in row.new.items w ≡ (if is_some (least_in other.now w) then lesser (least_in row.old.items w) (Some place) else least_in row.old.items w)) }
+    ensures lowers { OnOk result ((w : ℕ) →
+        least_in row.new.items w ≡ (if is_some (least_in other.now w) then lesser
+        (least_in row.old.items w) (Some place) else least_in row.old.items w)) }
     ensures single { IsSingle row.old.items → IsSingle row.new.items }
     ensures listed { IsListedRow row.old.items led.old o → IsListedRow row.new.items led.new o }
     ensures grows { Grows led.old led.new }
-    ensures others { (v : ℕ) → is_some (least_in other.now v) ≡ false → followers led.new v ≡ followers led.old v }
+    ensures others { (v : ℕ) → is_some (least_in other.now v) ≡ false →
+        followers led.new v ≡ followers led.old v }
 {
     enter_all(row, &mut led.index)?;
     for lead in other.iter() {
@@ -354,7 +373,8 @@ fn seek(row: &[Lead], w: u32, hint: usize) -> Option<usize>
 // The block of this thread is open no more. It may stand where the hint says.
 fn drop_opener(row: &mut Vec<Lead>, opener: u32, hint: usize)
     requires { IsSingle row.old.items }
-    ensures dropped { (w : ℕ) → least_in row.new.items w ≡ (if opener == w then None else least_in row.old.items w) }
+    ensures dropped { (w : ℕ) → least_in row.new.items w ≡
+        (if opener == w then None else least_in row.old.items w) }
     ensures single { IsSingle row.new.items }
 {
     let Some(at) = seek(row, opener, hint) else {
@@ -367,7 +387,8 @@ fn drop_opener(row: &mut Vec<Lead>, opener: u32, hint: usize)
 fn take_out(row: &mut Vec<Lead>, opener: u32, at: usize)
     requires found { IsFound row.old.items opener (Some at) }
     requires single { IsSingle row.old.items }
-    ensures dropped { (w : ℕ) → least_in row.new.items w ≡ (if opener == w then None else least_in row.old.items w) }
+    ensures dropped { (w : ℕ) → least_in row.new.items w ≡
+        (if opener == w then None else least_in row.old.items w) }
     ensures single { IsSingle row.new.items }
 {
     row.swap_remove(at);
@@ -376,7 +397,9 @@ fn take_out(row: &mut Vec<Lead>, opener: u32, at: usize)
 /// The block of thread `t`, whose row this is, leads from this place on. Where it is new, it isn't looked for.
 pub(crate) fn open(row: &mut Vec<Lead>, t: u32, place: u32, is_new: bool) -> Result<(), AllocError>
     requires { is_new ≡ true → is_some (least_in row.old.items t) ≡ false }
-    ensures row { OnOk result ((w : ℕ) → least_in row.new.items w ≡ (if t == w then lesser (least_in row.old.items w) (Some place) else least_in row.old.items w)) }
+    ensures row { OnOk result ((w : ℕ) →
+        least_in row.new.items w ≡ (if t == w then lesser (least_in row.old.items w) (Some place)
+        else least_in row.old.items w)) }
     ensures others { (w : ℕ) → w ≢ t → least_in row.new.items w ≡ least_in row.old.items w }
     ensures single { IsSingle row.old.items → IsSingle row.new.items }
 {
@@ -400,7 +423,9 @@ fn seek_unless(is_new: bool, row: &[Lead], t: u32) -> Option<usize>
 
 fn put_lead(row: &mut Vec<Lead>, opener: u32, place: u32) -> Result<(), AllocError>
     requires { is_some (least_in row.old.items opener) ≡ false }
-    ensures row { OnOk result ((w : ℕ) → least_in row.new.items w ≡ (if opener == w then lesser (least_in row.old.items w) (Some place) else least_in row.old.items w)) }
+    ensures row { OnOk result ((w : ℕ) →
+        least_in row.new.items w ≡ (if opener == w then lesser (least_in row.old.items w)
+        (Some place) else least_in row.old.items w)) }
     ensures others { (w : ℕ) → w ≢ opener → least_in row.new.items w ≡ least_in row.old.items w }
     ensures single { IsSingle row.old.items → IsSingle row.new.items }
 {
@@ -418,11 +443,14 @@ pub(crate) fn absorb(
     led: &mut Led,
 ) -> Result<(), AllocError>
     requires { IsSingle row.old.items }
-    ensures absorbs { OnOk result ((w : ℕ) → least_in row.new.items w ≡ absorbed (least_in ended.now) (least_in row.old.items) t w) }
+    ensures absorbs { OnOk result ((w : ℕ) →
+        least_in row.new.items w ≡ absorbed (least_in ended.now) (least_in row.old.items) t w) }
     ensures single { IsSingle row.new.items }
-    ensures listed { IsListedRow row.old.items led.old entry.thread → IsListedRow row.new.items led.new entry.thread }
+    ensures listed { IsListedRow row.old.items led.old entry.thread →
+        IsListedRow row.new.items led.new entry.thread }
     ensures grows { Grows led.old led.new }
-    ensures others { (v : ℕ) → is_some (least_in ended.now v) ≡ false → followers led.new v ≡ followers led.old v }
+    ensures others { (v : ℕ) → is_some (least_in ended.now v) ≡ false →
+        followers led.new v ≡ followers led.old v }
 {
     let hint = entry.at as usize;
     if ended.is_empty() {
@@ -439,7 +467,9 @@ pub(crate) fn absorb(
 
 // All of the row's blocks lead from this place on, or from an earlier one.
 fn lower_each(row: &mut [Lead], place: u32)
-    ensures lowers { (w : ℕ) → least_in row.new w ≡ (if is_some (least_in row.old w) then lesser (least_in row.old w) (Some place) else least_in row.old w) }
+    ensures lowers { (w : ℕ) → least_in row.new w ≡
+        (if is_some (least_in row.old w) then lesser (least_in row.old w) (Some place) else least_in
+        row.old w) }
     ensures single { IsSingle row.old → IsSingle row.new }
 {
     for lead in row.iter_mut() {
@@ -459,7 +489,9 @@ fn place_there(row: &[Lead], w: u32, at: usize) -> u32
 // The same. None in the row is above the high place, where one is known.
 fn lower_later(row: &mut [Lead], place: u32, high: Option<u32>)
     requires { IsHigh row.old high }
-    ensures lowers { (w : ℕ) → least_in row.new w ≡ (if is_some (least_in row.old w) then lesser (least_in row.old w) (Some place) else least_in row.old w) }
+    ensures lowers { (w : ℕ) → least_in row.new w ≡
+        (if is_some (least_in row.old w) then lesser (least_in row.old w) (Some place) else least_in
+        row.old w) }
     ensures single { IsSingle row.old → IsSingle row.new }
 {
     if !is_up_to(high, place) {
@@ -473,7 +505,8 @@ pub(crate) fn settle(row: &mut Vec<Lead>, t: u32, high: Option<u32>) -> Option<u
     requires single { IsSingle row.old.items }
     requires high { IsHigh row.old.items high }
     ensures own { result ≡ least_in row.old.items t }
-    ensures absorbs { (w : ℕ) → least_in row.new.items w ≡ absorbed (least_in row.old.items) (least_in row.old.items) t w }
+    ensures absorbs { (w : ℕ) → least_in row.new.items w ≡ absorbed (least_in row.old.items)
+        (least_in row.old.items) t w }
     ensures single { IsSingle row.new.items }
 {
     let Some(at) = seek(row, t, 0) else {

@@ -46,7 +46,8 @@ pub(crate) fn forget_all(seen: &mut Seen)
 /// Where it is true, each block that leads to an event of the other row's thread below a place is known to
 /// lead to thread `t`.
 pub(crate) fn has_seen(seen: &Seen, t: u32, other: &[Lead], below: u32) -> bool
-    ensures { result ≡ true → (w : ℕ) → is_below (least_in other.now w) below ≡ true → is_seen seen.now t w ≡ true }
+    ensures { result ≡ true → (w : ℕ) → is_below (least_in other.now w) below ≡ true →
+        is_seen seen.now t w ≡ true }
 {
     let openers = openers_of(seen, t);
     for lead in other.iter() {
@@ -109,8 +110,10 @@ pub(crate) fn see_all(seen: &mut Seen, threads: &[Thread], t: u32)
 
 fn reach(rows: &mut Vec<SeenRow>, t: u32) -> Result<(), AllocError>
     ensures room { OnOk result (t < vec_len rows.new) }
-    ensures same { (o : ℕ) → openers_in (slice_get rows.new.items o) ≡ openers_in (slice_get rows.old.items o) }
-    ensures whole { (o : ℕ) → whole_in (slice_get rows.new.items o) ≡ whole_in (slice_get rows.old.items o) }
+    ensures same { (o : ℕ) → openers_in (slice_get rows.new.items o) ≡
+        openers_in (slice_get rows.old.items o) }
+    ensures whole { (o : ℕ) → whole_in (slice_get rows.new.items o) ≡
+        whole_in (slice_get rows.old.items o) }
 {
     let at = t as usize;
     while rows.len() <= at {
@@ -136,8 +139,10 @@ fn break_row(seen: &mut Seen, t: u32)
 
 // The openers of the row that have a place among so many.
 fn see_row(known: &mut SeenRow, row: &[Lead], places: usize)
-    ensures so { (w : ℕ) → seen_at known.new.openers.items w ≡ true → (seen_at known.old.openers.items w || is_some (least_in row.now w)) ≡ true }
-    ensures whole { known.new.whole ≡ true → (w : ℕ) → is_some (least_in row.now w) ≡ true → seen_at known.new.openers.items w ≡ true }
+    ensures so { (w : ℕ) → seen_at known.new.openers.items w ≡ true →
+        (seen_at known.old.openers.items w || is_some (least_in row.now w)) ≡ true }
+    ensures whole { known.new.whole ≡ true → (w : ℕ) → is_some (least_in row.now w) ≡ true →
+        seen_at known.new.openers.items w ≡ true }
 {
     known.whole = false;
     if widen(&mut known.openers, places).is_err() {
@@ -157,9 +162,12 @@ fn widen(openers: &mut Vec<bool>, places: usize) -> Result<(), AllocError>
 
 // The openers of the row that have a place. Whether all have one.
 fn see_each(openers: &mut Vec<bool>, row: &[Lead]) -> bool
-    ensures kept { (w : ℕ) → seen_at openers.old.items w ≡ true → seen_at openers.new.items w ≡ true }
-    ensures so { (w : ℕ) → seen_at openers.new.items w ≡ true → (seen_at openers.old.items w || is_some (least_in row.now w)) ≡ true }
-    ensures whole { result ≡ true → (w : ℕ) → is_some (least_in row.now w) ≡ true → seen_at openers.new.items w ≡ true }
+    ensures kept { (w : ℕ) → seen_at openers.old.items w ≡ true →
+        seen_at openers.new.items w ≡ true }
+    ensures so { (w : ℕ) → seen_at openers.new.items w ≡ true →
+        (seen_at openers.old.items w || is_some (least_in row.now w)) ≡ true }
+    ensures whole { result ≡ true → (w : ℕ) → is_some (least_in row.now w) ≡ true →
+        seen_at openers.new.items w ≡ true }
 {
     let mut all = true;
     for lead in row.iter() {
@@ -170,9 +178,12 @@ fn see_each(openers: &mut Vec<bool>, row: &[Lead]) -> bool
 
 // One more opener. Whether this one has a place, and all before it had.
 fn see_too(all: bool, openers: &mut Vec<bool>, opener: u32) -> bool
-    ensures others { (w : ℕ) → w ≢ opener → seen_at openers.new.items w ≡ seen_at openers.old.items w }
-    ensures so { (w : ℕ) → seen_at openers.new.items w ≡ true → (seen_at openers.old.items w || (opener == w)) ≡ true }
-    ensures kept { (w : ℕ) → seen_at openers.old.items w ≡ true → seen_at openers.new.items w ≡ true }
+    ensures others { (w : ℕ) → w ≢ opener →
+        seen_at openers.new.items w ≡ seen_at openers.old.items w }
+    ensures so { (w : ℕ) → seen_at openers.new.items w ≡ true →
+        (seen_at openers.old.items w || (opener == w)) ≡ true }
+    ensures kept { (w : ℕ) → seen_at openers.old.items w ≡ true →
+        seen_at openers.new.items w ≡ true }
     ensures before { result ≡ true → all ≡ true }
     ensures here { result ≡ true → seen_at openers.new.items opener ≡ true }
 {
@@ -181,9 +192,12 @@ fn see_too(all: bool, openers: &mut Vec<bool>, opener: u32) -> bool
 
 // The opener is known, where there is a place for it.
 fn see(openers: &mut Vec<bool>, opener: u32) -> bool
-    ensures others { (w : ℕ) → w ≢ opener → seen_at openers.new.items w ≡ seen_at openers.old.items w }
-    ensures so { (w : ℕ) → seen_at openers.new.items w ≡ true → (seen_at openers.old.items w || (opener == w)) ≡ true }
-    ensures kept { (w : ℕ) → seen_at openers.old.items w ≡ true → seen_at openers.new.items w ≡ true }
+    ensures others { (w : ℕ) → w ≢ opener →
+        seen_at openers.new.items w ≡ seen_at openers.old.items w }
+    ensures so { (w : ℕ) → seen_at openers.new.items w ≡ true →
+        (seen_at openers.old.items w || (opener == w)) ≡ true }
+    ensures kept { (w : ℕ) → seen_at openers.old.items w ≡ true →
+        seen_at openers.new.items w ≡ true }
     ensures here { result ≡ true → seen_at openers.new.items opener ≡ true }
 {
     if (opener as usize) < openers.len() {
@@ -224,7 +238,8 @@ pub(crate) fn take_known(seen: &mut Seen, t: u32) -> SeenRow
 pub(crate) fn put_known(seen: &mut Seen, t: u32, known: SeenRow)
     ensures so { (w : ℕ) → is_seen seen.new t w ≡ true → seen_at known.openers.items w ≡ true }
     ensures whole { is_whole seen.new t ≡ true → known.whole ≡ true }
-    ensures here { is_whole seen.new t ≡ true → (w : ℕ) → seen_at known.openers.items w ≡ true → is_seen seen.new t w ≡ true }
+    ensures here { is_whole seen.new t ≡ true → (w : ℕ) → seen_at known.openers.items w ≡ true →
+        is_seen seen.new t w ≡ true }
     ensures others { (o w : ℕ) → o ≢ t → is_seen seen.new o w ≡ is_seen seen.old o w }
     ensures whole_others { (o : ℕ) → o ≢ t → is_whole seen.new o ≡ is_whole seen.old o }
 {
@@ -236,7 +251,8 @@ pub(crate) fn put_known(seen: &mut Seen, t: u32, known: SeenRow)
 /// The block of thread `t` begins, and leads to the thread. That is known where there is a place for it, and else the row
 /// isn't whole.
 pub(crate) fn see_own(seen: &mut Seen, t: u32)
-    ensures so { (o w : ℕ) → is_seen seen.new o w ≡ true → (is_seen seen.old o w || ((o == t) && (t == w))) ≡ true }
+    ensures so { (o w : ℕ) → is_seen seen.new o w ≡ true →
+        (is_seen seen.old o w || ((o == t) && (t == w))) ≡ true }
     ensures kept { (o w : ℕ) → is_seen seen.old o w ≡ true → is_seen seen.new o w ≡ true }
     ensures whole { (o : ℕ) → is_whole seen.new o ≡ true → is_whole seen.old o ≡ true }
     ensures own { is_whole seen.new t ≡ true → is_seen seen.new t t ≡ true }
@@ -248,9 +264,12 @@ pub(crate) fn see_own(seen: &mut Seen, t: u32)
 
 /// The same of one opener, in a row that was taken out.
 pub(crate) fn see_one(known: &mut SeenRow, w: u32)
-    ensures others { (v : ℕ) → v ≢ w → seen_at known.new.openers.items v ≡ seen_at known.old.openers.items v }
-    ensures so { (v : ℕ) → seen_at known.new.openers.items v ≡ true → (seen_at known.old.openers.items v || (w == v)) ≡ true }
-    ensures kept { (v : ℕ) → seen_at known.old.openers.items v ≡ true → seen_at known.new.openers.items v ≡ true }
+    ensures others { (v : ℕ) → v ≢ w →
+        seen_at known.new.openers.items v ≡ seen_at known.old.openers.items v }
+    ensures so { (v : ℕ) → seen_at known.new.openers.items v ≡ true →
+        (seen_at known.old.openers.items v || (w == v)) ≡ true }
+    ensures kept { (v : ℕ) → seen_at known.old.openers.items v ≡ true →
+        seen_at known.new.openers.items v ≡ true }
     ensures whole { known.new.whole ≡ true → known.old.whole ≡ true }
     ensures here { known.new.whole ≡ true → seen_at known.new.openers.items w ≡ true }
 {
@@ -261,12 +280,15 @@ pub(crate) fn see_one(known: &mut SeenRow, w: u32)
 /// thread to which it led these lead as well, from now on. That is known where there is a place for it, and else the row isn't
 /// whole.
 pub(crate) fn unsee_all(seen: &mut Seen, led: &Led, w: u32, later: &[Lead])
-    ensures so { (o v : ℕ) → is_seen seen.new o v ≡ true → (is_seen seen.old o v || (is_seen seen.old o w && is_some (least_in later.now v))) ≡ true }
+    ensures so { (o v : ℕ) → is_seen seen.new o v ≡ true →
+        (is_seen seen.old o v || (is_seen seen.old o w && is_some (least_in later.now v))) ≡ true }
     ensures kept { (o v : ℕ) → v ≢ w → is_seen seen.old o v ≡ true → is_seen seen.new o v ≡ true }
     ensures own { is_seen seen.new w w ≡ false }
     ensures listed { (o : ℕ) → is_listed led.now w o ≡ true → is_seen seen.new o w ≡ false }
     ensures whole { (o : ℕ) → is_whole seen.new o ≡ true → is_whole seen.old o ≡ true }
-    ensures handed { (o v : ℕ) → o ≢ w → is_listed led.now w o ≡ true → is_seen seen.old o w ≡ true → is_whole seen.new o ≡ true → v ≢ w → is_some (least_in later.now v) ≡ true → is_seen seen.new o v ≡ true }
+    ensures handed { (o v : ℕ) → o ≢ w → is_listed led.now w o ≡ true →
+        is_seen seen.old o w ≡ true → is_whole seen.new o ≡ true → v ≢ w →
+        is_some (least_in later.now v) ≡ true → is_seen seen.new o v ≡ true }
 {
     unsee(seen, w, w, &[]);
     let listed = count(led, w);
@@ -277,11 +299,13 @@ pub(crate) fn unsee_all(seen: &mut Seen, led: &Led, w: u32, later: &[Lead])
 
 // The block of thread w isn't known to lead to thread o. If it was, these are, as far as there is a place for them.
 fn unsee(seen: &mut Seen, o: u32, w: u32, later: &[Lead])
-    ensures so { (v : ℕ) → is_seen seen.new o v ≡ true → (is_seen seen.old o v || (is_seen seen.old o w && is_some (least_in later.now v))) ≡ true }
+    ensures so { (v : ℕ) → is_seen seen.new o v ≡ true →
+        (is_seen seen.old o v || (is_seen seen.old o w && is_some (least_in later.now v))) ≡ true }
     ensures kept { (v : ℕ) → v ≢ w → is_seen seen.old o v ≡ true → is_seen seen.new o v ≡ true }
     ensures gone { is_seen seen.new o w ≡ false }
     ensures whole { is_whole seen.new o ≡ true → is_whole seen.old o ≡ true }
-    ensures handed { is_seen seen.old o w ≡ true → is_whole seen.new o ≡ true → (v : ℕ) → v ≢ w → is_some (least_in later.now v) ≡ true → is_seen seen.new o v ≡ true }
+    ensures handed { is_seen seen.old o w ≡ true → is_whole seen.new o ≡ true → (v : ℕ) → v ≢ w →
+        is_some (least_in later.now v) ≡ true → is_seen seen.new o v ≡ true }
     ensures others { (u v : ℕ) → u ≢ o → is_seen seen.new u v ≡ is_seen seen.old u v }
     ensures whole_others { (u : ℕ) → u ≢ o → is_whole seen.new u ≡ is_whole seen.old u }
 {
@@ -292,11 +316,15 @@ fn unsee(seen: &mut Seen, o: u32, w: u32, later: &[Lead])
 
 // The same in the row of thread o.
 fn hand_on(known: &mut SeenRow, w: u32, later: &[Lead])
-    ensures so { (v : ℕ) → seen_at known.new.openers.items v ≡ true → (seen_at known.old.openers.items v || (seen_at known.old.openers.items w && is_some (least_in later.now v))) ≡ true }
-    ensures kept { (v : ℕ) → v ≢ w → seen_at known.old.openers.items v ≡ true → seen_at known.new.openers.items v ≡ true }
+    ensures so { (v : ℕ) → seen_at known.new.openers.items v ≡ true →
+        (seen_at known.old.openers.items v ||
+        (seen_at known.old.openers.items w && is_some (least_in later.now v))) ≡ true }
+    ensures kept { (v : ℕ) → v ≢ w → seen_at known.old.openers.items v ≡ true →
+        seen_at known.new.openers.items v ≡ true }
     ensures gone { seen_at known.new.openers.items w ≡ false }
     ensures whole { known.new.whole ≡ true → known.old.whole ≡ true }
-    ensures handed { seen_at known.old.openers.items w ≡ true → known.new.whole ≡ true → (v : ℕ) → v ≢ w → is_some (least_in later.now v) ≡ true → seen_at known.new.openers.items v ≡ true }
+    ensures handed { seen_at known.old.openers.items w ≡ true → known.new.whole ≡ true → (v : ℕ) →
+        v ≢ w → is_some (least_in later.now v) ≡ true → seen_at known.new.openers.items v ≡ true }
 {
     if is_in(&known.openers, w) {
         known.whole = see_each(&mut known.openers, later) && known.whole;

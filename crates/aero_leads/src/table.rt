@@ -69,7 +69,8 @@ pub(crate) fn gain(
 ) -> Result<(), AllocError>
     requires actor { t < vec_len table.old.threads }
     requires other { o ≢ t }
-    ensures gains { OnOk result (TakesRow (rows_in table.old.threads.items) (rows_in table.new.threads.items) place t o below) }
+    ensures gains { OnOk result (TakesRow (rows_in table.old.threads.items)
+        (rows_in table.new.threads.items) place t o below) }
     ensures same { HaveSameBlocks table.old.threads.items table.new.threads.items }
     ensures room { vec_len table.new.threads ≡ vec_len table.old.threads }
 {
@@ -100,7 +101,9 @@ pub(crate) fn gain(
 
 // Where it is true, all that leads to an event of thread `o` below a place is known to lead to thread `t` as well.
 fn brings_nothing(table: &Table, t: u32, o: u32, below: u32) -> bool
-    ensures { result ≡ true → (w : ℕ) → is_below (rows_in table.now.threads.items o w) below ≡ true → is_some (rows_in table.now.threads.items t w) ≡ true }
+    ensures { result ≡ true → (w : ℕ) →
+        is_below (rows_in table.now.threads.items o w) below ≡ true →
+        is_some (rows_in table.now.threads.items t w) ≡ true }
 {
     let other = row_of(&table.threads, o);
     let theirs = openers_of(&table.beside.seen, o);
@@ -115,7 +118,9 @@ fn brings_nothing(table: &Table, t: u32, o: u32, below: u32) -> bool
 #[inline(always)]
 fn brings(table: &Table, t: u32, o: u32, below: u32) -> Brought
     ensures closes { result.closes ≡ is_below (rows_in table.now.threads.items o t) below }
-    ensures known { result.news ≡ false → (w : ℕ) → is_below (rows_in table.now.threads.items o w) below ≡ true → is_some (rows_in table.now.threads.items t w) ≡ true }
+    ensures known { result.news ≡ false → (w : ℕ) →
+        is_below (rows_in table.now.threads.items o w) below ≡ true →
+        is_some (rows_in table.now.threads.items t w) ≡ true }
 {
     let row = row_of(&table.threads, t);
     let other = row_of(&table.threads, o);
@@ -129,7 +134,9 @@ fn brings(table: &Table, t: u32, o: u32, below: u32) -> Brought
 fn brings_of_whole(table: &Table, t: u32, o: u32, below: u32) -> Brought
     requires { is_whole table.now.beside.seen o ≡ true }
     ensures closes { result.closes ≡ is_below (rows_in table.now.threads.items o t) below }
-    ensures known { result.news ≡ false → (w : ℕ) → is_below (rows_in table.now.threads.items o w) below ≡ true → is_some (rows_in table.now.threads.items t w) ≡ true }
+    ensures known { result.news ≡ false → (w : ℕ) →
+        is_below (rows_in table.now.threads.items o w) below ≡ true →
+        is_some (rows_in table.now.threads.items t w) ≡ true }
 {
     let closes = is_led(table, o, t, below);
     let news = may_bring(table, t, o, below);
@@ -151,7 +158,9 @@ fn is_led(table: &Table, o: u32, w: u32, below: u32) -> bool
 // that is what differs, and mostly it began later.
 fn may_bring(table: &Table, t: u32, o: u32, below: u32) -> bool
     requires { is_whole table.now.beside.seen o ≡ true }
-    ensures { result ≡ false → (w : ℕ) → is_below (rows_in table.now.threads.items o w) below ≡ true → is_some (rows_in table.now.threads.items t w) ≡ true }
+    ensures { result ≡ false → (w : ℕ) →
+        is_below (rows_in table.now.threads.items o w) below ≡ true →
+        is_some (rows_in table.now.threads.items t w) ≡ true }
 {
     let mine = openers_of(&table.beside.seen, t);
     if has_others(openers_of(&table.beside.seen, o), mine, o) {
@@ -171,8 +180,11 @@ fn gain_news(
 ) -> Result<(), AllocError>
     requires actor { t < vec_len table.old.threads }
     requires other { last.thread ≢ t }
-    requires known { news ≡ false → (w : ℕ) → is_below (rows_in table.old.threads.items last.thread w) last.count ≡ true → is_some (rows_in table.old.threads.items t w) ≡ true }
-    ensures gains { OnOk result (TakesRow (rows_in table.old.threads.items) (rows_in table.new.threads.items) place t last.thread last.count) }
+    requires known { news ≡ false → (w : ℕ) →
+        is_below (rows_in table.old.threads.items last.thread w) last.count ≡ true →
+        is_some (rows_in table.old.threads.items t w) ≡ true }
+    ensures gains { OnOk result (TakesRow (rows_in table.old.threads.items)
+        (rows_in table.new.threads.items) place t last.thread last.count) }
     ensures same { HaveSameBlocks table.old.threads.items table.new.threads.items }
     ensures room { vec_len table.new.threads ≡ vec_len table.old.threads }
 {
@@ -198,7 +210,8 @@ fn place_for(last: Last, t: u32) -> u32
 pub(crate) fn may_be_led(table: &Table, last: Last, t: u32) -> bool
     ensures other { result ≡ true → last.thread ≢ t }
     ensures there { result ≡ true → 0 < last.count }
-    ensures unled { result ≡ false → last.thread ≢ t → (w : ℕ) → is_below (rows_in table.now.threads.items last.thread w) last.count ≡ false }
+    ensures unled { result ≡ false → last.thread ≢ t → (w : ℕ) →
+        is_below (rows_in table.now.threads.items last.thread w) last.count ≡ false }
 {
     !is_low(&table.beside.lows, last.thread, place_for(last, t))
 }
@@ -208,8 +221,11 @@ pub(crate) fn may_be_led(table: &Table, last: Last, t: u32) -> bool
 #[inline(always)]
 pub(crate) fn take(table: &mut Table, t: u32, last: Last, place: u32) -> Result<bool, AllocError>
     requires { t < vec_len table.old.threads }
-    ensures closing { IfOk result (λ closes. closes ≡ leads_to (rows_in table.old.threads.items) t t last) }
-    ensures takes { IfOk result (λ closes. closes ≡ false → TakesAll (rows_in table.old.threads.items) (rows_in table.new.threads.items) place t (last ∷ [])) }
+    ensures closing { IfOk result (λ closes. closes ≡ leads_to (rows_in table.old.threads.items) t t
+        last) }
+    ensures takes { IfOk result (λ closes. closes ≡ false →
+        TakesAll (rows_in table.old.threads.items) (rows_in table.new.threads.items) place t
+        (last ∷ [])) }
     ensures same { HaveSameBlocks table.old.threads.items table.new.threads.items }
     ensures room { vec_len table.new.threads ≡ vec_len table.old.threads }
 {
@@ -233,8 +249,11 @@ pub(crate) fn take_reads(
     place: u32,
 ) -> Result<bool, AllocError>
     requires { t < vec_len table.old.threads }
-    ensures closing { IfOk result (λ closes. closes ≡ leads_to_any (rows_in table.old.threads.items) t t (others.now ++ if_any latest)) }
-    ensures takes { IfOk result (λ closes. closes ≡ false → TakesAll (rows_in table.old.threads.items) (rows_in table.new.threads.items) place t (others.now ++ if_any latest)) }
+    ensures closing { IfOk result (λ closes. closes ≡ leads_to_any (rows_in table.old.threads.items)
+        t t (others.now ++ if_any latest)) }
+    ensures takes { IfOk result (λ closes. closes ≡ false →
+        TakesAll (rows_in table.old.threads.items) (rows_in table.new.threads.items) place t
+        (others.now ++ if_any latest)) }
     ensures same { HaveSameBlocks table.old.threads.items table.new.threads.items }
     ensures room { vec_len table.new.threads ≡ vec_len table.old.threads }
 {
@@ -248,8 +267,11 @@ pub(crate) fn take_reads(
 // The same of each of these events in turn.
 fn take_all(table: &mut Table, t: u32, lasts: &[Last], place: u32) -> Result<bool, AllocError>
     requires { t < vec_len table.old.threads }
-    ensures closing { IfOk result (λ closes. closes ≡ leads_to_any (rows_in table.old.threads.items) t t lasts.now) }
-    ensures takes { IfOk result (λ closes. closes ≡ false → TakesAll (rows_in table.old.threads.items) (rows_in table.new.threads.items) place t lasts.now) }
+    ensures closing { IfOk result (λ closes. closes ≡ leads_to_any (rows_in table.old.threads.items)
+        t t lasts.now) }
+    ensures takes { IfOk result (λ closes. closes ≡ false →
+        TakesAll (rows_in table.old.threads.items) (rows_in table.new.threads.items) place t
+        lasts.now) }
     ensures same { HaveSameBlocks table.old.threads.items table.new.threads.items }
     ensures room { vec_len table.new.threads ≡ vec_len table.old.threads }
 {
@@ -265,7 +287,8 @@ fn take_all(table: &mut Table, t: u32, lasts: &[Last], place: u32) -> Result<boo
 pub(crate) fn begin(table: &mut Table, t: u32, place: u32) -> Result<(), AllocError>
     requires actor { t < vec_len table.old.threads }
     requires count { thread_begins (slice_get table.old.threads.items t) < 2 ^ 32 - 1 }
-    ensures begins { OnOk result (BeginsBlock table.old.threads.items table.new.threads.items t place) }
+    ensures begins { OnOk result (BeginsBlock table.old.threads.items table.new.threads.items t
+        place) }
     ensures err { OnErr result (HaveSameBlocks table.old.threads.items table.new.threads.items) }
     ensures room { vec_len table.new.threads ≡ vec_len table.old.threads }
 {
@@ -325,7 +348,8 @@ pub(crate) fn end(table: &mut Table, t: u32) -> Result<(), AllocError>
 
 // What leads to thread t, and hasn't been passed on yet to the threads to which its open block leads.
 fn not_passed(table: &Table, t: u32) -> Result<Vec<Lead>, AllocError>
-    ensures { IfOk result (λ ls. ls.items ≡ leads_since t (passed_of table.now.beside.passed t) (thread_row (slice_get table.now.threads.items t))) }
+    ensures { IfOk result (λ ls. ls.items ≡ leads_since t (passed_of table.now.beside.passed t)
+        (thread_row (slice_get table.now.threads.items t))) }
 {
     let alloc = *table.threads.allocator();
     let place = passed_before(&table.beside.passed, t);
@@ -337,10 +361,14 @@ fn not_passed(table: &Table, t: u32) -> Result<Vec<Lead>, AllocError>
 /// Thread `t` has made an event.
 pub(crate) fn act(table: &mut Table, t: u32)
     requires { t < vec_len table.old.threads }
-    ensures rows { (o w : ℕ) → rows_in table.new.threads.items o w ≡ rows_in table.old.threads.items o w }
-    ensures in_block { (u : ℕ) → thread_in_block (slice_get table.new.threads.items u) ≡ thread_in_block (slice_get table.old.threads.items u) }
-    ensures begins { (u : ℕ) → thread_begins (slice_get table.new.threads.items u) ≡ thread_begins (slice_get table.old.threads.items u) }
-    ensures acted { (u : ℕ) → thread_acted (slice_get table.new.threads.items u) ≡ (if t == u then true else thread_acted (slice_get table.old.threads.items u)) }
+    ensures rows { (o w : ℕ) → rows_in table.new.threads.items o w ≡ rows_in table.old.threads.items
+        o w }
+    ensures in_block { (u : ℕ) → thread_in_block (slice_get table.new.threads.items u) ≡
+        thread_in_block (slice_get table.old.threads.items u) }
+    ensures begins { (u : ℕ) → thread_begins (slice_get table.new.threads.items u) ≡
+        thread_begins (slice_get table.old.threads.items u) }
+    ensures acted { (u : ℕ) → thread_acted (slice_get table.new.threads.items u) ≡
+        (if t == u then true else thread_acted (slice_get table.old.threads.items u)) }
 {
     thread::act(&mut table.threads, t);
 }

@@ -25,7 +25,8 @@ pub struct Thread {
 pub(crate) fn reach(threads: &mut Vec<Thread>, t: u32) -> Result<(), AllocError>
     ensures room { OnOk result (t < vec_len threads.new) }
     ensures same { AreSameThreads threads.old.items threads.new.items }
-    ensures lists { (v : ℕ) → thread_row (slice_get threads.new.items v) ≡ thread_row (slice_get threads.old.items v) }
+    ensures lists { (v : ℕ) → thread_row (slice_get threads.new.items v) ≡
+        thread_row (slice_get threads.old.items v) }
 {
     let at = t as usize;
     while threads.len() <= at {
@@ -82,7 +83,8 @@ pub(crate) fn begin(
     requires count { thread_begins (slice_get threads.old.items t) < 2 ^ 32 - 1 }
     ensures begins { OnOk result (BeginsBlock threads.old.items threads.new.items t place) }
     ensures err { OnErr result (HaveSameBlocks threads.old.items threads.new.items) }
-    ensures listed { (led : Led) → AreListed threads.old.items led → AreListed threads.new.items led }
+    ensures listed { (led : Led) → AreListed threads.old.items led →
+        AreListed threads.new.items led }
     ensures single { AreSingle threads.old.items → AreSingle threads.new.items }
     ensures room { vec_len threads.new ≡ vec_len threads.old }
 {
@@ -131,7 +133,8 @@ fn least_listed(threads: &[Thread], t: u32, led: &Led) -> Option<u32>
 // seldom so.
 fn is_back(threads: &[Thread], t: u32, u: u32, index: &Index) -> bool
     requires { IsIndexed (thread_row (slice_get threads.now t)) index.now }
-    ensures { result ≡ (not (u == t) && (is_some (rows_in threads.now t u) && is_some (rows_in threads.now u t))) }
+    ensures { result ≡ (not (u == t) &&
+        (is_some (rows_in threads.now t u) && is_some (rows_in threads.now u t))) }
 {
     u != t && has_entered(row_of(threads, t), index, u) && has(row_of(threads, u), t)
 }
@@ -140,10 +143,14 @@ fn is_back(threads: &[Thread], t: u32, u: u32, index: &Index) -> bool
 pub(crate) fn act(threads: &mut Vec<Thread>, t: u32)
     requires { t < vec_len threads.old }
     ensures rows { (o w : ℕ) → rows_in threads.new.items o w ≡ rows_in threads.old.items o w }
-    ensures in_block { (u : ℕ) → thread_in_block (slice_get threads.new.items u) ≡ thread_in_block (slice_get threads.old.items u) }
-    ensures begins { (u : ℕ) → thread_begins (slice_get threads.new.items u) ≡ thread_begins (slice_get threads.old.items u) }
-    ensures acted { (u : ℕ) → thread_acted (slice_get threads.new.items u) ≡ (if t == u then true else thread_acted (slice_get threads.old.items u)) }
-    ensures lists { (v : ℕ) → thread_row (slice_get threads.new.items v) ≡ thread_row (slice_get threads.old.items v) }
+    ensures in_block { (u : ℕ) → thread_in_block (slice_get threads.new.items u) ≡
+        thread_in_block (slice_get threads.old.items u) }
+    ensures begins { (u : ℕ) → thread_begins (slice_get threads.new.items u) ≡
+        thread_begins (slice_get threads.old.items u) }
+    ensures acted { (u : ℕ) → thread_acted (slice_get threads.new.items u) ≡
+        (if t == u then true else thread_acted (slice_get threads.old.items u)) }
+    ensures lists { (v : ℕ) → thread_row (slice_get threads.new.items v) ≡
+        thread_row (slice_get threads.old.items v) }
 {
     threads[t as usize].acted = true;
 }
@@ -152,10 +159,14 @@ pub(crate) fn act(threads: &mut Vec<Thread>, t: u32)
 pub(crate) fn leave(threads: &mut Vec<Thread>, t: u32)
     requires { t < vec_len threads.old }
     ensures rows { (o w : ℕ) → rows_in threads.new.items o w ≡ rows_in threads.old.items o w }
-    ensures in_block { (u : ℕ) → thread_in_block (slice_get threads.new.items u) ≡ (if t == u then false else thread_in_block (slice_get threads.old.items u)) }
-    ensures begins { (u : ℕ) → thread_begins (slice_get threads.new.items u) ≡ thread_begins (slice_get threads.old.items u) }
-    ensures acted { (u : ℕ) → thread_acted (slice_get threads.new.items u) ≡ thread_acted (slice_get threads.old.items u) }
-    ensures lists { (v : ℕ) → thread_row (slice_get threads.new.items v) ≡ thread_row (slice_get threads.old.items v) }
+    ensures in_block { (u : ℕ) → thread_in_block (slice_get threads.new.items u) ≡
+        (if t == u then false else thread_in_block (slice_get threads.old.items u)) }
+    ensures begins { (u : ℕ) → thread_begins (slice_get threads.new.items u) ≡
+        thread_begins (slice_get threads.old.items u) }
+    ensures acted { (u : ℕ) → thread_acted (slice_get threads.new.items u) ≡
+        thread_acted (slice_get threads.old.items u) }
+    ensures lists { (v : ℕ) → thread_row (slice_get threads.new.items v) ≡
+        thread_row (slice_get threads.old.items v) }
     ensures room { vec_len threads.new ≡ vec_len threads.old }
 {
     threads[t as usize].in_block = false;
@@ -170,11 +181,15 @@ fn visit(
     led: &mut Led,
 ) -> Result<(), AllocError>
     requires { AreSingle threads.old.items }
-    ensures rows { OnOk result ((v w : ℕ) → rows_in threads.new.items v w ≡ (if entry.thread == v then absorbed (least_in ended.now) (rows_in threads.old.items v) t w else rows_in threads.old.items v w)) }
+    ensures rows { OnOk result ((v w : ℕ) →
+        rows_in threads.new.items v w ≡
+        (if entry.thread == v then absorbed (least_in ended.now) (rows_in threads.old.items v) t w
+        else rows_in threads.old.items v w)) }
     ensures same { HaveSameBlocks threads.old.items threads.new.items }
     ensures listed { AreListed threads.old.items led.old → AreListed threads.new.items led.new }
     ensures grows { Grows led.old led.new }
-    ensures others { (v : ℕ) → is_some (least_in ended.now v) ≡ false → followers led.new v ≡ followers led.old v }
+    ensures others { (v : ℕ) → is_some (least_in ended.now v) ≡ false →
+        followers led.new v ≡ followers led.old v }
     ensures single { AreSingle threads.new.items }
     ensures room { vec_len threads.new ≡ vec_len threads.old }
 {
@@ -195,7 +210,10 @@ pub(crate) fn spread(
 ) -> Result<(), AllocError>
     requires own { is_some (least_in ended.now t) ≡ false }
     requires single { AreSingle threads.old.items }
-    ensures rows { OnOk result ((o w : ℕ) → rows_in threads.new.items o w ≡ (if is_listed led.old t o then absorbed (least_in ended.now) (rows_in threads.old.items o) t w else rows_in threads.old.items o w)) }
+    ensures rows { OnOk result ((o w : ℕ) →
+        rows_in threads.new.items o w ≡
+        (if is_listed led.old t o then absorbed (least_in ended.now) (rows_in threads.old.items o) t
+        w else rows_in threads.old.items o w)) }
     ensures same { HaveSameBlocks threads.old.items threads.new.items }
     ensures listed { AreListed threads.old.items led.old → AreListed threads.new.items led.new }
     ensures grows { Grows led.old led.new }

@@ -64,8 +64,12 @@ pub(crate) fn note_write(
     x: u32,
     event: Last,
 ) -> Result<(), AllocError>
-    ensures writes { OnOk result ((y : ℕ) → variable_write (slice_get variables.new.items y) ≡ (if y == x then event else variable_write (slice_get variables.old.items y))) }
-    ensures reads { OnOk result ((y : ℕ) → variable_reads (slice_get variables.new.items y) ≡ (if y == x then [] else variable_reads (slice_get variables.old.items y))) }
+    ensures writes { OnOk result ((y : ℕ) →
+        variable_write (slice_get variables.new.items y) ≡
+        (if y == x then event else variable_write (slice_get variables.old.items y))) }
+    ensures reads { OnOk result ((y : ℕ) →
+        variable_reads (slice_get variables.new.items y) ≡
+        (if y == x then [] else variable_reads (slice_get variables.old.items y))) }
 {
     reach(variables, x)?;
     let variable = &mut variables[x as usize];
@@ -84,10 +88,17 @@ pub(crate) fn note_read(
     event: Last,
     is_kept: bool,
 ) -> Result<(), AllocError>
-    ensures writes { OnOk result ((y : ℕ) → variable_write (slice_get variables.new.items y) ≡ variable_write (slice_get variables.old.items y)) }
+    ensures writes { OnOk result ((y : ℕ) →
+        variable_write (slice_get variables.new.items y) ≡
+        variable_write (slice_get variables.old.items y)) }
     ensures latest { OnOk result (latest_read_in (slice_get variables.new.items x) ≡ event) }
-    ensures others { OnOk result (AreKept event.thread (other_reads_in (slice_get variables.old.items x) ++ (if is_kept then latest_read_in (slice_get variables.old.items x) ∷ [] else [])) (other_reads_in (slice_get variables.new.items x))) }
-    ensures same { OnOk result ((y : ℕ) → y ≢ x → variable_reads (slice_get variables.new.items y) ≡ variable_reads (slice_get variables.old.items y)) }
+    ensures others { OnOk result (AreKept event.thread
+        (other_reads_in (slice_get variables.old.items x) ++
+        (if is_kept then latest_read_in (slice_get variables.old.items x) ∷ [] else []))
+        (other_reads_in (slice_get variables.new.items x))) }
+    ensures same { OnOk result ((y : ℕ) → y ≢ x →
+        variable_reads (slice_get variables.new.items y) ≡
+        variable_reads (slice_get variables.old.items y)) }
 {
     reach(variables, x)?;
     put_read(&mut variables[x as usize], event, is_kept)?;
@@ -96,7 +107,9 @@ pub(crate) fn note_read(
 
 /// Lock `l` is released by this event.
 pub(crate) fn note_release(releases: &mut Vec<Last>, l: u32, event: Last) -> Result<(), AllocError>
-    ensures { OnOk result ((m : ℕ) → last_or_none (slice_get releases.new.items m) ≡ (if m == l then event else last_or_none (slice_get releases.old.items m))) }
+    ensures { OnOk result ((m : ℕ) →
+        last_or_none (slice_get releases.new.items m) ≡
+        (if m == l then event else last_or_none (slice_get releases.old.items m))) }
 {
     reach_lock(releases, l)?;
     releases[l as usize] = event;
@@ -107,7 +120,9 @@ pub(crate) fn note_release(releases: &mut Vec<Last>, l: u32, event: Last) -> Res
 fn put_read(variable: &mut Variable, event: Last, is_kept: bool) -> Result<(), AllocError>
     ensures write { variable.new.write ≡ variable.old.write }
     ensures latest { OnOk result (variable.new.read ≡ event) }
-    ensures others { OnOk result (AreKept event.thread (variable.old.others.items ++ (if is_kept then variable.old.read ∷ [] else [])) variable.new.others.items) }
+    ensures others { OnOk result (AreKept event.thread
+        (variable.old.others.items ++ (if is_kept then variable.old.read ∷ [] else []))
+        variable.new.others.items) }
 {
     drop_stale(&mut variable.others, event.thread);
     if is_kept {
@@ -160,10 +175,14 @@ fn drop_reader(reads: &mut Vec<Last>, t: u32)
 
 fn reach(variables: &mut Vec<Variable>, x: u32) -> Result<(), AllocError>
     ensures room { OnOk result (x < vec_len variables.new) }
-    ensures writes { (y : ℕ) → variable_write (slice_get variables.new.items y) ≡ variable_write (slice_get variables.old.items y) }
-    ensures reads { (y : ℕ) → variable_reads (slice_get variables.new.items y) ≡ variable_reads (slice_get variables.old.items y) }
-    ensures latest { (y : ℕ) → latest_read_in (slice_get variables.new.items y) ≡ latest_read_in (slice_get variables.old.items y) }
-    ensures others { (y : ℕ) → other_reads_in (slice_get variables.new.items y) ≡ other_reads_in (slice_get variables.old.items y) }
+    ensures writes { (y : ℕ) → variable_write (slice_get variables.new.items y) ≡
+        variable_write (slice_get variables.old.items y) }
+    ensures reads { (y : ℕ) → variable_reads (slice_get variables.new.items y) ≡
+        variable_reads (slice_get variables.old.items y) }
+    ensures latest { (y : ℕ) → latest_read_in (slice_get variables.new.items y) ≡
+        latest_read_in (slice_get variables.old.items y) }
+    ensures others { (y : ℕ) → other_reads_in (slice_get variables.new.items y) ≡
+        other_reads_in (slice_get variables.old.items y) }
 {
     let at = x as usize;
     while variables.len() <= at {
@@ -179,7 +198,8 @@ fn reach(variables: &mut Vec<Variable>, x: u32) -> Result<(), AllocError>
 
 fn reach_lock(releases: &mut Vec<Last>, l: u32) -> Result<(), AllocError>
     ensures room { OnOk result (l < vec_len releases.new) }
-    ensures same { (m : ℕ) → last_or_none (slice_get releases.new.items m) ≡ last_or_none (slice_get releases.old.items m) }
+    ensures same { (m : ℕ) → last_or_none (slice_get releases.new.items m) ≡
+        last_or_none (slice_get releases.old.items m) }
 {
     let at = l as usize;
     while releases.len() <= at {

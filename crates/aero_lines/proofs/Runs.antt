@@ -12,13 +12,13 @@ use Rattle.aero_lines.proofs.Capped.{has_too_long-is, cap-is}
 use Rattle.aero_lines.proofs.Steps.{HasNoEnd, step_shut, step_held, step_cut, block_of-at, fed-at, Holds, Cuts, last_block-shut, last_block-at}
 
 -- a text has no line's end, or a last one
-record Last (t : List ℕ) : Type 0 where
+pub record Last (t : List ℕ) : Type 0 where
   pub at : ℕ
   pub within : at < length t
   pub ends : is_line_end (get_or t at 0) ≡ true
   pub behind : HasNoEnd (drop (suc at) t)
 
-last_end : (t : List ℕ) → HasNoEnd t ⊎ Last t
+pub last_end : (t : List ℕ) → HasNoEnd t ⊎ Last t
 last_end [] = inl refl
 last_end (b ∷ t) = go (cases_Bool (is_line_end b)) (last_end t)
   where

@@ -88,7 +88,8 @@ impl Cutter {
     /// shut.
     pub fn feed(&mut self, piece: &[u8]) -> Result<Option<Block>, AllocError>
         ensures block { IfOk result (λ block. block ≡ block_of self.old piece.now) }
-        ensures few { IfOk result (λ block. IfSome block (λ bytes. length bytes ≤ most_line_bytes + length piece.now)) }
+        ensures few { IfOk result (λ block.
+            IfSome block (λ bytes. length bytes ≤ most_line_bytes + length piece.now)) }
         ensures after { OnOk result (self.new ≡ fed self.old piece.now) }
         ensures refused { OnErr result (self.new ≡ self.old) }
         ensures shut { IsTrue self.old.shut → IsOk result }
@@ -132,7 +133,8 @@ impl Cutter {
     // The piece is kept, and no line is whole yet.
     fn hold(&mut self, piece: &[u8]) -> Result<(), AllocError>
         requires { IsOpenLine (self.old.rest ++ piece.now) }
-        ensures after { OnOk result (self.new ≡ record self.old { rest = self.old.rest ++ piece.now }) }
+        ensures after { OnOk result (self.new ≡
+            record self.old { rest = self.old.rest ++ piece.now }) }
         ensures refused { OnErr result (self.new ≡ self.old) }
         ensures some { OnErr result (0 < length piece.now) }
     {

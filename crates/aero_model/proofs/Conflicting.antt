@@ -1,28 +1,18 @@
 -- Whether two places conflict can be decided.
-use Rattle.std.proofs.Common.{◌≡◌, ℕ, ◌<◌, ◌==◌, ◌||◌, Bool, true, false, List, length, Some, inl, inr, refl, sym, ◌∙◌, ap, ap₂, subst, arith}
+use Rattle.std.proofs.Common.{◌≡◌, ℕ, ◌<◌, ◌==◌, ◌||◌, true, List, length, Some, inl, inr, refl, sym, ◌∙◌, ap, ap₂, subst, arith}
 use Rattle.std.specs.Prelude.{slice_get}
 use Rattle.std.proofs.lemmas.Bool.{cases_Bool, cases_lt, or_cases, or_left, or_right, eq-eqb, eqb-true, both_ways}
 use Rattle.std.proofs.lemmas.Option.{same_Some}
 use Rattle.aero_model.specs.declared.numbered.Numbered.{Numbered}
 use Rattle.aero_model.specs.declared.numbered.What.{What}
 use Rattle.aero_model.specs.declared.numbered.What.TheVariants.{Read, Write, Acquire, Release, Fork, Join}
+use Rattle.aero_model.specs.Deciding.{deeds_conflict, conflicting}
 use Rattle.aero_model.specs.Graph.{Conflict, Conflicts, same_thread, write_read, read_write, write_write, release_acquire, forks, joined}
 use Rattle.aero_model.specs.Shape.{is_fork_of, is_join_of}
 use Rattle.aero_model.proofs.Searching.{Decided}
 use Rattle.aero_model.proofs.Telling.{event_at}
 
--- whether the two access one variable and one writes it, or the first releases a lock that the second acquires
-abbrev deeds_conflict : What → What → Bool
-deeds_conflict (Write x) (Read y) = x == y
-deeds_conflict (Read x) (Write y) = x == y
-deeds_conflict (Write x) (Write y) = x == y
-deeds_conflict (Release l) (Acquire m) = l == m
-deeds_conflict _ _ = false
-
-abbrev conflicts : Numbered → Numbered → Bool
-conflicts a b = ((a.thread == b.thread) || deeds_conflict a.what b.what) || (is_fork_of b.thread a.what || is_join_of a.thread b.what)
-
-fork_is : (u : ℕ) (w : What) → is_fork_of u w ≡ true → w ≡ Fork u
+pub fork_is : (u : ℕ) (w : What) → is_fork_of u w ≡ true → w ≡ Fork u
 fork_is u (Fork v) h = ap Fork (sym (eqb-true u v h))
 fork_is u _ h = cc
 
@@ -38,7 +28,7 @@ module _ (a b : Numbered) where
   from_deeds (Release l) (Acquire m) p q h = release_acquire l p (q ∙ ap Acquire (sym (eqb-true l m h)))
   from_deeds _ _ p q h = absurd (cc)
 
-  conflicts_from : conflicts a b ≡ true → Conflicts a b
+  conflicts_from : conflicting a b ≡ true → Conflicts a b
   conflicts_from h =
       elim (or_cases ((a.thread == b.thread) || deeds_conflict a.what b.what) (is_fork_of b.thread a.what || is_join_of a.thread b.what) h) [
         | inl l ↦ elim (or_cases (a.thread == b.thread) (deeds_conflict a.what b.what) l) [
@@ -51,16 +41,16 @@ module _ (a b : Numbered) where
         ]
       ]
 
-  by_thread_or_deeds : ((a.thread == b.thread) || deeds_conflict a.what b.what) ≡ true → conflicts a b ≡ true
+  by_thread_or_deeds : ((a.thread == b.thread) || deeds_conflict a.what b.what) ≡ true → conflicting a b ≡ true
   by_thread_or_deeds h = or_left ((a.thread == b.thread) || deeds_conflict a.what b.what) (is_fork_of b.thread a.what || is_join_of a.thread b.what) h
 
-  by_deeds : deeds_conflict a.what b.what ≡ true → conflicts a b ≡ true
+  by_deeds : deeds_conflict a.what b.what ≡ true → conflicting a b ≡ true
   by_deeds h = by_thread_or_deeds (or_right (a.thread == b.thread) (deeds_conflict a.what b.what) h)
 
-  by_other : (is_fork_of b.thread a.what || is_join_of a.thread b.what) ≡ true → conflicts a b ≡ true
+  by_other : (is_fork_of b.thread a.what || is_join_of a.thread b.what) ≡ true → conflicting a b ≡ true
   by_other h = or_right ((a.thread == b.thread) || deeds_conflict a.what b.what) (is_fork_of b.thread a.what || is_join_of a.thread b.what) h
 
-to_conflicts : (a b : Numbered) → Conflicts a b → conflicts a b ≡ true
+to_conflicts : (a b : Numbered) → Conflicts a b → conflicting a b ≡ true
 to_conflicts a b (same_thread e) = by_thread_or_deeds a b (or_left (a.thread == b.thread) (deeds_conflict a.what b.what) (eq-eqb a.thread b.thread e))
 to_conflicts a b (write_read x p q) = by_deeds a b (ap₂ deeds_conflict p q ∙ eq-eqb x x refl)
 to_conflicts a b (read_write x p q) = by_deeds a b (ap₂ deeds_conflict p q ∙ eq-eqb x x refl)
@@ -69,15 +59,21 @@ to_conflicts a b (release_acquire l p q) = by_deeds a b (ap₂ deeds_conflict p 
 to_conflicts a b (forks p) = by_other a b (or_left (is_fork_of b.thread a.what) (is_join_of a.thread b.what) (ap (is_fork_of b.thread) p ∙ eq-eqb b.thread b.thread refl))
 to_conflicts a b (joined p) = by_other a b (or_right (is_fork_of b.thread a.what) (is_join_of a.thread b.what) (ap (is_join_of a.thread) p ∙ eq-eqb a.thread a.thread refl))
 
-pub cases_conflicts : (a b : Numbered) → Decided (Conflicts a b)
-cases_conflicts a b =
-    elim (cases_Bool (conflicts a b)) [ inl h ↦ inl (conflicts_from a b h) | inr h ↦ inr (λ c. both_ways (conflicts a b) h (to_conflicts a b c)) ]
+module _ (trace : List Numbered) (i j : ℕ) (a b : Numbered) (at_i : slice_get trace i ≡ Some a) (at_j : slice_get trace j ≡ Some b) where
+  pub conflict_from : i < j → conflicting a b ≡ true → Conflict trace i j
+  conflict_from l h = record { earlier = l; first = a; first_at = at_i; second = b; second_at = at_j; conflict = conflicts_from a b h }
+
+  pub conflict_to : Conflict trace i j → conflicting a b ≡ true
+  conflict_to c =
+      let first = same_Some c.first a (sym c.first_at ∙ at_i) in
+      let second = same_Some c.second b (sym c.second_at ∙ at_j) in
+      to_conflicts a b (subst (Conflicts a) second (subst (λ e. Conflicts e c.second) first c.conflict))
 
 pub cases_conflict : (trace : List Numbered) (i j : ℕ) → j < length trace → Decided (Conflict trace i j)
 cases_conflict trace i j l = elim (cases_lt i j) [ inr le ↦ inr (λ c. omega (arith, c.earlier)) | inl less ↦ both less (event_at trace i (omega arith)) (event_at trace j l) ]
   where
     both : i < j → (e : Numbered) × (slice_get trace i ≡ Some e) → (e : Numbered) × (slice_get trace j ≡ Some e) → Decided (Conflict trace i j)
-    both less (a, at_i) (b, at_j) = elim (cases_conflicts a b) [
-      | inl c ↦ inl record { earlier = less; first = a; first_at = at_i; second = b; second_at = at_j; conflict = c }
-      | inr none ↦ inr (λ c. none (subst (Conflicts a) (same_Some c.second b (sym c.second_at ∙ at_j)) (subst (λ e. Conflicts e c.second) (same_Some c.first a (sym c.first_at ∙ at_i)) c.conflict)))
+    both less (a, at_i) (b, at_j) = elim (cases_Bool (conflicting a b)) [
+      | inl h ↦ inl (conflict_from trace i j a b at_i at_j less h)
+      | inr h ↦ inr (λ c. both_ways (conflicting a b) h (conflict_to trace i j a b at_i at_j c))
     ]

@@ -53,9 +53,11 @@ impl<R: Read> Read for Counting<R> {
     #[inline(always)]
     fn read(&mut self, buf: &mut [u8]) -> io::Result<usize>
         ensures bound { ReadsAtMost result buf.new }
-        ensures bytes { ReadConsumes (R.remaining (inner_of self.old)) (R.remaining (inner_of self.new)) result buf.new }
+        ensures bytes { ReadConsumes (R.remaining (inner_of self.old))
+            (R.remaining (inner_of self.new)) result buf.new }
         ensures faults { faults_of self.new ≡ faults_of self.old + (if is_err result then 1 else 0) }
-        ensures ends { ends_of self.new ≡ ends_of self.old + (if moves_nothing result buf.new then 1 else 0) }
+        ensures ends { ends_of self.new ≡
+            ends_of self.old + (if moves_nothing result buf.new then 1 else 0) }
     {
         let result = self.inner.read(buf);
         match &result {
@@ -81,8 +83,10 @@ impl<W: Write> Write for Counting<W> {
     #[inline(always)]
     fn write(&mut self, buf: &[u8]) -> io::Result<usize>
         ensures bound { WritesAtMost result buf.now }
-        ensures bytes { WriteAppends (W.contents (inner_of self.old)) (W.contents (inner_of self.new)) result buf.now }
-        ensures faults { faults_of self.new ≡ faults_of self.old + (if is_err result || moves_nothing result buf.now then 1 else 0) }
+        ensures bytes { WriteAppends (W.contents (inner_of self.old))
+            (W.contents (inner_of self.new)) result buf.now }
+        ensures faults { faults_of self.new ≡
+            faults_of self.old + (if is_err result || moves_nothing result buf.now then 1 else 0) }
         ensures ends { ends_of self.new ≡ ends_of self.old }
     {
         let result = self.inner.write(buf);

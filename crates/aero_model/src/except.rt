@@ -65,7 +65,8 @@ impl Except {
 
     fn listing(labels: Vec<Name>, only: bool) -> Option<Except>
         ensures few { IsSome result ↔ (vec_len labels ≤ most_labels) }
-        ensures labels { IfSome result (λ except. except ≡ record { labels = labels.items; only = only }) }
+        ensures labels { IfSome result
+            (λ except. except ≡ record { labels = labels.items; only = only }) }
     {
         if labels.len() > MOST_LABELS {
             return None;
@@ -81,7 +82,8 @@ impl Except {
     /// constant time in the number of labels.
     pub fn of_set(labels: IndexSet<Name>, only: bool) -> Option<Except>
         ensures few { IsSome result ↔ (length labels.keys ≤ most_labels_of_set) }
-        ensures labels { IfSome result (λ except. except ≡ record { labels = labels.keys; only = only }) }
+        ensures labels { IfSome result
+            (λ except. except ≡ record { labels = labels.keys; only = only }) }
     {
         if labels.len() > MOST_LABELS_OF_SET {
             return None;

@@ -1,4 +1,4 @@
-//! What every part of the checker speaks of: names, events, limits, faults, verdicts and findings.
+//! What every part of the checker speaks of: names, events, limits, terms, faults, verdicts and findings.
 //!
 //! The definitions that a reader has to believe stand in `specs/`: the lines of a text, names and
 //! their numbers, the transactions of a trace and the blocks that are none, conflicts and telling
@@ -23,6 +23,9 @@
 //! - Of a `Counting` one number rises by 1 exactly where a read or a write failed. A write that takes none of some
 //!   bytes counts as failed. The other rises by 1 exactly where a read found the end. The bytes are those of what is
 //!   within, and a flush changes neither number: `read`, `write`, `flush`; `bytes`, `faults`, `ends`.
+//! - The terms on which a source is judged are those that were given: `Terms::new`, and each of its calls.
+//! - A finding has a verdict exactly if the bytes of its source came whole: `Finding::verdict`. Counting adds 1 to one of four
+//!   numbers: `Counts::none`, `Counts::with`.
 //! - Each fault has its words: `line_words`, `shape_words`. Nothing is said of the texts that `Display` makes of them.
 //! - Laws on cycles. A telling cycle is a cycle, and it stays one. Where all transactions have ended each cycle shows
 //!   as a telling one, and a cycle that doesn't passes two open blocks. The first telling cycles begin in open blocks.
@@ -44,6 +47,7 @@ pub mod laws;
 pub mod limits;
 pub mod name;
 pub mod numbered;
+pub mod terms;
 pub mod verdict;
 pub mod words;
 
@@ -53,7 +57,8 @@ pub use except::{Except, SharedExcept};
 pub use limits::Limits;
 pub use name::{Name, NameFault};
 pub use numbered::{Numbered, What};
+pub use terms::Terms;
 pub use verdict::{
-    Counts, Cycle, CycleStep, CycleTransaction, Ending, Extent, Finding, LineFault, OpenBlock,
-    ShapeFault, Step, Verdict,
+    Counts, Cycle, CycleStep, CycleTransaction, Ending, Extent, Finding, Found, LineFault,
+    OpenBlock, ShapeFault, Step, Verdict,
 };

@@ -1,4 +1,4 @@
-//! Faults, verdicts and findings.
+//! Faults, verdicts and findings, and how many there were of each kind.
 use crate::event::Event;
 use crate::name::Name;
 use crate::words::{line_words, shape_words};
@@ -151,6 +151,33 @@ pub enum Finding {
     TooLarge,
 }
 
+impl Finding {
+    ghost use Rattle.std.specs.Prelude.{◌≡◌, None, Some, IfNone, IfSome};
+    ghost use Rattle.aero_model.specs.Verdicts.{verdict_of};
+
+    /// The verdict on the trace of the source, or `None` if its bytes didn't come whole.
+    pub fn verdict(&self) -> Option<&Verdict>
+        ensures some { IfSome result (λ verdict. verdict_of self.now ≡ Some verdict.now) }
+        ensures none { IfNone result (verdict_of self.now ≡ None) }
+    {
+        match self {
+            Finding::Judged(verdict) => Some(verdict),
+            Finding::Ordered(verdict, _) => Some(verdict),
+            Finding::Explained(verdict, _) => Some(verdict),
+            Finding::Opened(verdict, _) => Some(verdict),
+            Finding::Broken(_) | Finding::TooLarge => None,
+        }
+    }
+}
+
+/// What is known of a source once its reading has ended: how many bytes came, how they ended, and what is said of them.
+#[derive(Drop)]
+pub struct Found {
+    pub bytes: u64,
+    pub ending: Ending,
+    pub finding: Finding,
+}
+
 /// How many sources were found to be what.
 #[derive(Clone, Copy, Debug, PartialEq, Eq)]
 pub struct Counts {
@@ -158,4 +185,52 @@ pub struct Counts {
     pub pending: u64,
     pub violations: u64,
     pub faults: u64,
+}
+
+impl Counts {
+    ghost use Rattle.std.specs.Prelude.{◌≡◌, ◌<◌, ◌+◌, ◌-◌, ◌^◌};
+    ghost use Rattle.aero_model.specs.Verdicts.{counted, counted_verdict, no_counts, total};
+
+    /// No source is counted yet.
+    pub fn none() -> Counts
+        ensures { result ≡ no_counts }
+    {
+        Counts {
+            serializable: 0,
+            pending: 0,
+            violations: 0,
+            faults: 0,
+        }
+    }
+
+    /// The counts with one more source, of which this was found. A source whose bytes didn't come whole counts as a fault.
+    /// Together they count fewer than 2^64 - 1 sources.
+    pub fn with(&self, finding: &Finding) -> Counts
+        requires { total self.now < 2 ^ 64 - 1 }
+        ensures counts { result ≡ counted self.now finding.now }
+        ensures total { total result ≡ total self.now + 1 }
+    {
+        match finding.verdict() {
+            Some(verdict) => self.with_verdict(verdict),
+            None => Counts {
+                faults: self.faults + 1,
+                ..*self
+            },
+        }
+    }
+
+    fn with_verdict(&self, verdict: &Verdict) -> Counts
+        requires { total self.now < 2 ^ 64 - 1 }
+        ensures counts { result ≡ counted_verdict self.now verdict.now }
+        ensures total { total result ≡ total self.now + 1 }
+    {
+        let mut counts = *self;
+        match verdict {
+            Verdict::Serializable { .. } => counts.serializable += 1,
+            Verdict::Pending { .. } => counts.pending += 1,
+            Verdict::Violation { .. } => counts.violations += 1,
+            Verdict::Malformed { .. } | Verdict::IllFormed { .. } => counts.faults += 1,
+        }
+        counts
+    }
 }

@@ -129,7 +129,8 @@ pub(crate) fn find(
     name: &[u8],
     mark: u128,
 ) -> (Option<u32>, u32)
-    requires indexed { IsIndexed (mark_in (marks_of latest.now)) names.now (length names.now) (next_at latest.now) before.now }
+    requires indexed { IsIndexed (mark_in (marks_of latest.now)) names.now (length names.now)
+        (next_at latest.now) before.now }
     requires keyed { AreKeys names.now keys.now }
     requires marked { mark ≡ mark_in (marks_of latest.now) name.now }
     ensures found { IfSome result.0 (λ number. slice_get names.now number ≡ Some name.now) }
@@ -171,7 +172,8 @@ fn link(
     requires fits { number < u32.MAX }
     requires within { IsWithin latest.old mark }
     ensures marks { marks_of latest.new ≡ marks_of latest.old }
-    ensures latest { OnOk result ((m : ℕ) → next_at latest.new m ≡ (if nat_eq mark m then number + 1 else next_at latest.old m)) }
+    ensures latest { OnOk result ((m : ℕ) →
+        next_at latest.new m ≡ (if nat_eq mark m then number + 1 else next_at latest.old m)) }
     ensures rows { OnOk result (before.new.items ≡ before.old.items ++ next_at latest.old mark ∷ []) }
 {
     before.reserve(1)?;
@@ -189,7 +191,8 @@ fn tables_from(
     requires heads { HasHeads latest }
     requires none { (m : ℕ) → next_at latest m ≡ 0 }
     ensures marks { IfOk result (λ tables. marks_of tables.0 ≡ marks_of latest) }
-    ensures indexed { IfOk result (λ tables. IsIndexed (mark_in (marks_of tables.0)) names.now (length names.now) (next_at tables.0) tables.1.items) }
+    ensures indexed { IfOk result (λ tables. IsIndexed (mark_in (marks_of tables.0)) names.now
+        (length names.now) (next_at tables.0) tables.1.items) }
 {
     let room = (names.len() as usize).saturating_mul(2);
     let mut before = Vec::with_capacity(alloc, room)?;
@@ -209,7 +212,8 @@ pub(crate) fn spread(
     latest: &Latest,
     names: &NameList,
 ) -> Result<(Latest, Vec<u32>), AllocError>
-    ensures { IfOk result (λ tables. IsIndexed (mark_in (marks_of tables.0)) names.now (length names.now) (next_at tables.0) tables.1.items) }
+    ensures { IfOk result (λ tables. IsIndexed (mark_in (marks_of tables.0)) names.now
+        (length names.now) (next_at tables.0) tables.1.items) }
 {
     let spread = match latest.hashing {
         Hashing::First => {
@@ -241,8 +245,10 @@ pub(crate) fn grow(
     before: &mut Vec<u32>,
     names: &NameList,
 ) -> Result<(), AllocError>
-    requires { IsIndexed (mark_in (marks_of latest.old)) names.now (length names.now) (next_at latest.old) before.old.items }
-    ensures indexed { IsIndexed (mark_in (marks_of latest.new)) names.now (length names.now) (next_at latest.new) before.new.items }
+    requires { IsIndexed (mark_in (marks_of latest.old)) names.now (length names.now)
+        (next_at latest.old) before.old.items }
+    ensures indexed { IsIndexed (mark_in (marks_of latest.new)) names.now (length names.now)
+        (next_at latest.new) before.new.items }
     ensures heads { OnOk result (HasHeads latest.new) }
 {
     if is_roomy(latest, names.len()) {

@@ -68,7 +68,8 @@ fn ends_of(name: &[u8]) -> (u64, u64)
 // Its first eight bytes and its last eight, each as one number, where it has as many.
 #[inline(always)]
 fn eight_bytes(name: &[u8]) -> Option<(u64, u64)>
-    ensures { MatchOption result (length name.now < 8) (λ ends. (8 ≤ length name.now) × (ends ≡ words_of w64 name.now)) }
+    ensures { MatchOption result (length name.now < 8) (λ ends. (8 ≤ length name.now) ×
+        (ends ≡ words_of w64 name.now)) }
 {
     let first = name.first_chunk::<8>()?;
     let last = name.last_chunk::<8>()?;
@@ -78,7 +79,8 @@ fn eight_bytes(name: &[u8]) -> Option<(u64, u64)>
 // The same of four bytes.
 #[inline(always)]
 fn four_bytes(name: &[u8]) -> Option<(u64, u64)>
-    ensures { MatchOption result (length name.now < 4) (λ ends. (4 ≤ length name.now) × (ends ≡ words_of w32 name.now)) }
+    ensures { MatchOption result (length name.now < 4) (λ ends. (4 ≤ length name.now) ×
+        (ends ≡ words_of w32 name.now)) }
 {
     let first = name.first_chunk::<4>()?;
     let last = name.last_chunk::<4>()?;
@@ -91,7 +93,8 @@ fn four_bytes(name: &[u8]) -> Option<(u64, u64)>
 // The same of two bytes.
 #[inline(always)]
 fn two_bytes(name: &[u8]) -> Option<(u64, u64)>
-    ensures { MatchOption result (length name.now < 2) (λ ends. (2 ≤ length name.now) × (ends ≡ words_of w16 name.now)) }
+    ensures { MatchOption result (length name.now < 2) (λ ends. (2 ≤ length name.now) ×
+        (ends ≡ words_of w16 name.now)) }
 {
     let first = name.first_chunk::<2>()?;
     let last = name.last_chunk::<2>()?;

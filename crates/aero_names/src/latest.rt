@@ -140,7 +140,8 @@ impl Latest {
         requires { IsWithin self.old mark }
         ensures marks { marks_of self.new ≡ marks_of self.old }
         ensures before { IfOk result (λ before. before ≡ next_at self.old mark) }
-        ensures latest { OnOk result ((m : ℕ) → next_at self.new m ≡ (if nat_eq mark m then next else next_at self.old m)) }
+        ensures latest { OnOk result ((m : ℕ) →
+            next_at self.new m ≡ (if nat_eq mark m then next else next_at self.old m)) }
         ensures room { OnOk result (HasRoom self.new mark) }
         ensures err { OnErr result ((m : ℕ) → next_at self.new m ≡ next_at self.old m) }
     {
@@ -156,7 +157,8 @@ impl Latest {
         requires { self.old.way ≢ ByHeads }
         ensures marks { marks_of self.new ≡ marks_of self.old }
         ensures before { IfOk result (λ before. before ≡ next_at self.old mark) }
-        ensures latest { OnOk result ((m : ℕ) → next_at self.new m ≡ (if nat_eq mark m then next else next_at self.old m)) }
+        ensures latest { OnOk result ((m : ℕ) →
+            next_at self.new m ≡ (if nat_eq mark m then next else next_at self.old m)) }
         ensures room { OnOk result (HasRoom self.new mark) }
         ensures err { OnErr result ((m : ℕ) → next_at self.new m ≡ next_at self.old m) }
     {
@@ -173,7 +175,8 @@ impl Latest {
     pub(crate) fn put_back(&mut self, mark: u128, next: u32)
         requires { HasRoom self.old mark }
         ensures marks { marks_of self.new ≡ marks_of self.old }
-        ensures latest { (m : ℕ) → next_at self.new m ≡ (if nat_eq mark m then next else next_at self.old m) }
+        ensures latest { (m : ℕ) → next_at self.new m ≡
+            (if nat_eq mark m then next else next_at self.old m) }
     {
         match self.way {
             Way::Heads => {
@@ -226,7 +229,8 @@ fn put_head(heads: &mut [u32], mark: u128, next: u32) -> u32
     requires { mark < length heads.old }
     ensures before { result ≡ slice_index heads.old mark }
     ensures count { length heads.new ≡ length heads.old }
-    ensures latest { (m : ℕ) → slice_index heads.new m ≡ (if nat_eq mark m then next else slice_index heads.old m) }
+    ensures latest { (m : ℕ) → slice_index heads.new m ≡
+        (if nat_eq mark m then next else slice_index heads.old m) }
 {
     let place = mark as usize;
     let before = heads[place];
@@ -246,7 +250,8 @@ fn set_hint(heads: &mut [u32], hash: u128, next: u32)
 
 fn put_few(few: &mut IndexMap<u128, u32>, mark: u128, next: u32) -> Result<u32, AllocError>
     ensures before { IfOk result (λ before. before ≡ next_few few.old mark) }
-    ensures latest { OnOk result ((m : ℕ) → next_few few.new m ≡ (if nat_eq mark m then next else next_few few.old m)) }
+    ensures latest { OnOk result ((m : ℕ) →
+        next_few few.new m ≡ (if nat_eq mark m then next else next_few few.old m)) }
     ensures room { OnOk result (get_indexed nat_eq few.new mark ≢ None) }
     ensures err { OnErr result ((m : ℕ) → next_few few.new m ≡ next_few few.old m) }
 {
@@ -267,7 +272,8 @@ fn put_few_back(few: &mut IndexMap<u128, u32>, mark: u128, next: u32)
 
 fn put_print(prints: &mut BTreeMap<u128, u32>, mark: u128, next: u32) -> Result<u32, AllocError>
     ensures before { IfOk result (λ before. before ≡ next_print prints.old mark) }
-    ensures latest { OnOk result ((m : ℕ) → next_print prints.new m ≡ (if nat_eq mark m then next else next_print prints.old m)) }
+    ensures latest { OnOk result ((m : ℕ) →
+        next_print prints.new m ≡ (if nat_eq mark m then next else next_print prints.old m)) }
     ensures room { OnOk result (ContainsKey nat_cmp prints.new mark) }
     ensures err { OnErr result ((m : ℕ) → next_print prints.new m ≡ next_print prints.old m) }
 {
@@ -279,7 +285,8 @@ fn put_print(prints: &mut BTreeMap<u128, u32>, mark: u128, next: u32) -> Result<
 
 fn put_print_back(prints: &mut BTreeMap<u128, u32>, mark: u128, next: u32)
     requires { ContainsKey nat_cmp prints.old mark }
-    ensures { (m : ℕ) → next_print prints.new m ≡ (if nat_eq mark m then next else next_print prints.old m) }
+    ensures { (m : ℕ) → next_print prints.new m ≡
+        (if nat_eq mark m then next else next_print prints.old m) }
 {
     let Ok(_) = prints.insert(mark, next) else {
         unreachable!()

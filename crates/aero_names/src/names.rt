@@ -112,7 +112,8 @@ impl Names {
         requires new { is_listed self.old name.now ≡ false }
         requires hashed { hash ≡ hash_in name.now }
         ensures number { IfOk result (λ number. number ≡ length self.old.names) }
-        ensures names { OnOk result (self.new ≡ record self.old { names = self.old.names ++ name.now ∷ [] }) }
+        ensures names { OnOk result (self.new ≡
+            record self.old { names = self.old.names ++ name.now ∷ [] }) }
         ensures full { IsErrOf result NamesFault.Full ↔ (self.old.limit ≤ length self.old.names) }
         ensures err { OnErr result (self.new ≡ self.old) }
         ensures listing { IsListing self.new }
@@ -151,7 +152,8 @@ impl Names {
         requires hashed { hash ≡ hash_in name.now }
         requires new { is_listed self.old name.now ≡ false }
         requires room { length self.old.names < self.old.limit }
-        ensures names { OnOk result (self.new ≡ record self.old { names = self.old.names ++ name.now ∷ [] }) }
+        ensures names { OnOk result (self.new ≡
+            record self.old { names = self.old.names ++ name.now ∷ [] }) }
         ensures err { OnErr result (self.new ≡ self.old) }
         ensures listing { IsListing self.new }
     {

@@ -39,7 +39,8 @@ impl Free {
     /// Takes the least number out.
     pub fn take_least(&mut self) -> Option<u32>
         ensures none { IfNone result ((w : ℕ) → held self.old w ≡ 0) }
-        ensures some { IfSome result (λ v. (w : ℕ) → held self.old w ≡ one_if (v == w) + held self.new w) }
+        ensures some { IfSome result (λ v. (w : ℕ) →
+            held self.old w ≡ one_if (v == w) + held self.new w) }
         ensures least { IfSome result (λ v. (w : ℕ) → w < v → held self.old w ≡ 0) }
     {
         match self.heap.pop() {

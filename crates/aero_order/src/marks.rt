@@ -19,7 +19,8 @@ pub struct Readers {
 
 impl Readers {
     fn ends_with(&self, number: u32) -> bool
-        ensures { IsTrue result ↔ (slice_get self.now.numbers.items (length self.now.numbers.items - 1) ≡ Some number) }
+        ensures { IsTrue result ↔ (slice_get self.now.numbers.items
+            (length self.now.numbers.items - 1) ≡ Some number) }
     {
         match self.numbers.last() {
             Some(last) => *last == number,
@@ -92,7 +93,9 @@ impl Marks {
         number: u32,
         edges: &mut Vec<(u32, u32)>,
     ) -> Result<(), AllocError>
-        ensures { OnOk result (AreLinked edges.old.items number (looked_back (kept_of self.now) (reads_of self.now) (own_of self.now) event.now) edges.new.items) }
+        ensures { OnOk result (AreLinked edges.old.items number
+            (looked_back (kept_of self.now) (reads_of self.now) (own_of self.now) event.now)
+            edges.new.items) }
     {
         link(edges, mark(&self.last, event.thread), number)?;
         match event.what {
@@ -109,9 +112,12 @@ impl Marks {
 
     /// Keeps the number of the event.
     pub fn note(&mut self, event: &Numbered, number: u32) -> Result<(), AllocError>
-        ensures slots { OnOk result ((s : Slot) → is_looked_at s ≡ true → kept_of self.new s ≡ (if of_slot s event.now then Some number else kept_of self.old s)) }
-        ensures reads { OnOk result (AreReadsAfter event.now.what number (reads_of self.old) (reads_of self.new)) }
-        ensures own { OnOk result ((t : ℕ) → own_of self.new t ≡ (if event.now.thread == t then Some number else own_of self.old t)) }
+        ensures slots { OnOk result ((s : Slot) → is_looked_at s ≡ true →
+            kept_of self.new s ≡ (if of_slot s event.now then Some number else kept_of self.old s)) }
+        ensures reads { OnOk result (AreReadsAfter event.now.what number (reads_of self.old)
+            (reads_of self.new)) }
+        ensures own { OnOk result ((t : ℕ) →
+            own_of self.new t ≡ (if event.now.thread == t then Some number else own_of self.old t)) }
     {
         put(&mut self.own, event.thread, number)?;
         note_last(&mut self.last, event, number)?;
@@ -134,7 +140,8 @@ fn mark(marks: &[Option<u32>], place: u32) -> Option<u32>
 }
 
 fn put(marks: &mut Vec<Option<u32>>, place: u32, number: u32) -> Result<(), AllocError>
-    ensures { OnOk result ((k : ℕ) → mark_at marks.new.items k ≡ (if place == k then Some number else mark_at marks.old.items k)) }
+    ensures { OnOk result ((k : ℕ) →
+        mark_at marks.new.items k ≡ (if place == k then Some number else mark_at marks.old.items k)) }
 {
     let at = place as usize;
     if marks.len() <= at {
@@ -168,8 +175,10 @@ fn reach(reads: &mut Vec<Readers>, x: u32) -> Result<(), AllocError>
 }
 
 fn add_read(reads: &mut Vec<Readers>, x: u32, number: u32) -> Result<(), AllocError>
-    ensures one { OnOk result (AreReadersWith (reads_at reads.old.items x) number (reads_at reads.new.items x)) }
-    ensures others { OnOk result ((y : ℕ) → y ≢ x → reads_at reads.new.items y ≡ reads_at reads.old.items y) }
+    ensures one { OnOk result (AreReadersWith (reads_at reads.old.items x) number
+        (reads_at reads.new.items x)) }
+    ensures others { OnOk result ((y : ℕ) → y ≢ x →
+        reads_at reads.new.items y ≡ reads_at reads.old.items y) }
 {
     reach(reads, x)?;
     reads[x as usize].add(number)
@@ -187,7 +196,9 @@ fn forget_reads(reads: &mut [Readers], x: u32)
 
 // An event is the last of its thread, and a fork the last of the thread that it forks.
 fn note_last(last: &mut Vec<Option<u32>>, event: &Numbered, number: u32) -> Result<(), AllocError>
-    ensures { OnOk result ((t : ℕ) → mark_at last.new.items t ≡ (if of_slot (OfThread t) event.now then Some number else mark_at last.old.items t)) }
+    ensures { OnOk result ((t : ℕ) →
+        mark_at last.new.items t ≡ (if of_slot (OfThread t) event.now then Some number else mark_at
+        last.old.items t)) }
 {
     put(last, event.thread, number)?;
     match event.what {
@@ -197,7 +208,9 @@ fn note_last(last: &mut Vec<Option<u32>>, event: &Numbered, number: u32) -> Resu
 }
 
 fn note_write(writes: &mut Vec<Option<u32>>, what: What, number: u32) -> Result<(), AllocError>
-    ensures { OnOk result ((x : ℕ) → mark_at writes.new.items x ≡ (if is_write_of x what then Some number else mark_at writes.old.items x)) }
+    ensures { OnOk result ((x : ℕ) →
+        mark_at writes.new.items x ≡ (if is_write_of x what then Some number else mark_at
+        writes.old.items x)) }
 {
     match what {
         What::Write(x) => put(writes, x, number),
@@ -206,7 +219,9 @@ fn note_write(writes: &mut Vec<Option<u32>>, what: What, number: u32) -> Result<
 }
 
 fn note_release(releases: &mut Vec<Option<u32>>, what: What, number: u32) -> Result<(), AllocError>
-    ensures { OnOk result ((l : ℕ) → mark_at releases.new.items l ≡ (if is_release_of l what then Some number else mark_at releases.old.items l)) }
+    ensures { OnOk result ((l : ℕ) →
+        mark_at releases.new.items l ≡
+        (if is_release_of l what then Some number else mark_at releases.old.items l)) }
 {
     match what {
         What::Release(l) => put(releases, l, number),
@@ -215,7 +230,8 @@ fn note_release(releases: &mut Vec<Option<u32>>, what: What, number: u32) -> Res
 }
 
 fn note_reads(reads: &mut Vec<Readers>, what: What, number: u32) -> Result<(), AllocError>
-    ensures { OnOk result (AreReadsAfter what number (reads_at reads.old.items) (reads_at reads.new.items)) }
+    ensures { OnOk result (AreReadsAfter what number (reads_at reads.old.items)
+        (reads_at reads.new.items)) }
 {
     match what {
         What::Read(x) => add_read(reads, x, number),

@@ -33,8 +33,10 @@ pub fn least_order(
 // How many edges lead to each number.
 fn count_waiting(alloc: Global, count: u32, edges: &[(u32, u32)]) -> Result<Vec<usize>, AllocError>
     requires { All (λ e. e.1 < count) edges.now }
-    ensures len { IfOk result (λ waiting. (vec_len waiting ≡ count) × (length waiting.items ≡ count)) }
-    ensures counts { IfOk result (λ waiting. (v : ℕ) → v < count → slice_index waiting.items v ≡ missing_count edges.now [] v) }
+    ensures len { IfOk result (λ waiting. (vec_len waiting ≡ count) ×
+        (length waiting.items ≡ count)) }
+    ensures counts { IfOk result (λ waiting. (v : ℕ) → v < count →
+        slice_index waiting.items v ≡ missing_count edges.now [] v) }
 {
     let mut waiting = vec![in alloc; 0; count as usize]?;
     for e in edges {
@@ -46,7 +48,8 @@ fn count_waiting(alloc: Global, count: u32, edges: &[(u32, u32)]) -> Result<Vec<
 // The numbers to which no edge leads.
 fn first_free(alloc: Global, count: u32, waiting: &[usize]) -> Result<Free, AllocError>
     requires { length waiting.now ≡ count }
-    ensures { IfOk result (λ free. (v : ℕ) → held free v ≡ one_if (is_due count [] v (slice_index waiting.now v))) }
+    ensures { IfOk result (λ free. (v : ℕ) →
+        held free v ≡ one_if (is_due count [] v (slice_index waiting.now v))) }
 {
     let mut free = Free::new(alloc);
     for v in 0..count {
@@ -66,7 +69,8 @@ fn give_way(
 ) -> Result<(), AllocError>
     requires within { All (λ e. e.1 < length waiting.old) edges.now }
     requires ordered { IsNonDecreasingBy (λ e. e.0) edges.now }
-    ensures { OnOk result (GivesWay edges.now u waiting.old (held free.old) waiting.new (held free.new)) }
+    ensures { OnOk result (GivesWay edges.now u waiting.old (held free.old) waiting.new
+        (held free.new)) }
 {
     let first = edges.partition_point(|e| e.0 < u);
     release_all(&edges[first..], u, waiting, free)
@@ -82,7 +86,8 @@ fn release_all(
     requires within { All (λ e. e.1 < length waiting.old) edges.now }
     requires ordered { IsNonDecreasingBy (λ e. e.0) edges.now }
     requires from { All (λ e. u ≤ e.0) edges.now }
-    ensures { OnOk result (GivesWay edges.now u waiting.old (held free.old) waiting.new (held free.new)) }
+    ensures { OnOk result (GivesWay edges.now u waiting.old (held free.old) waiting.new
+        (held free.new)) }
 {
     for e in edges {
         if e.0 != u {
@@ -97,8 +102,10 @@ fn release_all(
 fn release(v: u32, waiting: &mut [usize], free: &mut Free) -> Result<(), AllocError>
     requires { v < length waiting.old }
     ensures others { (w : ℕ) → w ≢ v → slice_index waiting.new w ≡ slice_index waiting.old w }
-    ensures less { 0 < slice_index waiting.old v → slice_index waiting.new v + 1 ≡ slice_index waiting.old v }
-    ensures holds { OnOk result ((w : ℕ) → held free.new w ≡ one_if ((slice_index waiting.new v == 0) && (v == w)) + held free.old w) }
+    ensures less { 0 < slice_index waiting.old v →
+        slice_index waiting.new v + 1 ≡ slice_index waiting.old v }
+    ensures holds { OnOk result ((w : ℕ) →
+        held free.new w ≡ one_if ((slice_index waiting.new v == 0) && (v == w)) + held free.old w) }
 {
     let left = waiting[v as usize].saturating_sub(1);
     waiting[v as usize] = left;

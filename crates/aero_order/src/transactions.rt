@@ -52,8 +52,12 @@ impl Transactions {
     pub fn add(&mut self, line: u32, event: &Numbered, inside: bool) -> Result<(), AllocError>
         requires { events_of self.old < u32.MAX }
         ensures counted { events_of self.new ≡ events_of self.old + 1 }
-        ensures stands { OnOk result ((trace : List Numbered) (judged : Numbered) → IsJudgedAs event.now judged → inside ≡ nat_lt 0 (depth trace event.now.thread (length trace)) → StandsFor self.old trace → StandsFor self.new (trace ++ judged ∷ [])) }
-        ensures kept { (came : List Came) → KeepsCame self.old came → KeepsCame self.new (came ++ record { line = line; thread = event.now.thread } ∷ []) }
+        ensures stands { OnOk result ((trace : List Numbered) (judged : Numbered) →
+            IsJudgedAs event.now judged → inside ≡
+            nat_lt 0 (depth trace event.now.thread (length trace)) → StandsFor self.old trace →
+            StandsFor self.new (trace ++ judged ∷ [])) }
+        ensures kept { (came : List Came) → KeepsCame self.old came →
+            KeepsCame self.new (came ++ record { line = line; thread = event.now.thread } ∷ []) }
     {
         let place = self.events;
         self.events = place + 1;
@@ -75,9 +79,13 @@ impl Transactions {
     /// The transactions' first events in the serial order, unless there is a cycle.
     pub fn order(self, alloc: Global) -> Result<Option<Vec<First>>, AllocError>
         requires { (trace : List Numbered) × StandsFor self trace }
-        ensures exact { IfOk result (λ order. (trace : List Numbered) → IsWellFormed trace → StandsFor self trace → IsSome order ↔ IsSerializable trace (length trace)) }
-        ensures serial { IfOk result (λ order. IfSome order (λ found. (trace : List Numbered) → IsWellFormed trace → StandsFor self trace → IsSerialOrder trace (places_in found.items))) }
-        ensures kept { IfOk result (λ order. IfSome order (λ found. (came : List Came) → KeepsCame self came → All (IsOf came) found.items)) }
+        ensures exact { IfOk result (λ order. (trace : List Numbered) → IsWellFormed trace →
+            StandsFor self trace → IsSome order ↔ IsSerializable trace (length trace)) }
+        ensures serial { IfOk result (λ order. IfSome order (λ found. (trace : List Numbered) →
+            IsWellFormed trace → StandsFor self trace →
+            IsSerialOrder trace (places_in found.items))) }
+        ensures kept { IfOk result (λ order. IfSome order (λ found. (came : List Came) →
+            KeepsCame self came → All (IsOf came) found.items)) }
     {
         let firsts = self.firsts;
         let mut edges = self.edges;
@@ -109,10 +117,17 @@ fn order_of(
     edges: &mut [(u32, u32)],
 ) -> Result<Option<Vec<First>>, AllocError>
     requires few { length firsts.now < 2 ^ 32 }
-    requires stands { (trace : List Numbered) × AreFirsts trace (places_in firsts.now) × AreEdges trace (places_in firsts.now) edges.old }
-    ensures exact { IfOk result (λ order. (trace : List Numbered) → IsWellFormed trace → AreFirsts trace (places_in firsts.now) → AreEdges trace (places_in firsts.now) edges.old → IsSome order ↔ IsSerializable trace (length trace)) }
-    ensures serial { IfOk result (λ order. IfSome order (λ found. (trace : List Numbered) → IsWellFormed trace → AreFirsts trace (places_in firsts.now) → AreEdges trace (places_in firsts.now) edges.old → IsSerialOrder trace (places_in found.items))) }
-    ensures kept { IfOk result (λ order. IfSome order (λ found. (came : List Came) → AreOf came firsts.now → All (IsOf came) found.items)) }
+    requires stands { (trace : List Numbered) × AreFirsts trace (places_in firsts.now) ×
+        AreEdges trace (places_in firsts.now) edges.old }
+    ensures exact { IfOk result (λ order. (trace : List Numbered) → IsWellFormed trace →
+        AreFirsts trace (places_in firsts.now) → AreEdges trace (places_in firsts.now) edges.old →
+        IsSome order ↔ IsSerializable trace (length trace)) }
+    ensures serial { IfOk result (λ order. IfSome order (λ found. (trace : List Numbered) →
+        IsWellFormed trace → AreFirsts trace (places_in firsts.now) →
+        AreEdges trace (places_in firsts.now) edges.old →
+        IsSerialOrder trace (places_in found.items))) }
+    ensures kept { IfOk result (λ order. IfSome order (λ found. (came : List Came) →
+        AreOf came firsts.now → All (IsOf came) found.items)) }
 {
     let order = least_order(alloc, firsts.len() as u32, edges)?;
     if order.len() < firsts.len() {

@@ -1,16 +1,17 @@
 //! Answers, each with its question.
-ghost use Rattle.std.specs.Prelude.{◌≡◌, ℕ, Bool, true, false, List, IfOk};
+ghost use Rattle.std.specs.Prelude.{◌≡◌, ℕ, Bool, List, IfOk};
 ghost use Rattle.std.specs.Arc.{arc_value};
 ghost use Rattle.aero_model.specs.declared.limits.Limits.{Limits};
 ghost use Rattle.aero_model.specs.Exempt.{Listed};
 ghost use Rattle.aero_grammar.specs.Reading.{Reading};
-ghost use Rattle.aero_verdict.specs.Finding.{asking, IsTraceFinding, Terms};
+ghost use Rattle.aero_verdict.specs.Finding.{IsTraceFinding};
+ghost use Rattle.aero_model.specs.Terms.{asking, Terms as Judged};
 ghost use Rattle.aero_pieces.specs.Values.{IsValueOf};
 
 use crate::question::Question;
 use aero_grammar::{Parsed, parse_block};
-use aero_model::{Cycle, Except, Finding, Limits, OpenBlock, Step, Verdict};
-use aero_verdict::{check_trace, check_trace_in_full, check_trace_in_order, explain_trace};
+use aero_model::{Cycle, Finding, Limits, OpenBlock, SharedExcept, Step, Terms, Verdict};
+use aero_verdict::judge_trace;
 use std::alloc::{AllocError, Global};
 use std::marker::Model;
 use std::sync::Arc;
@@ -70,7 +71,7 @@ impl Question {
                     order: *order,
                     explain: *explain,
                 };
-                check(alloc, parsed.get(), limits, except.get(), asked)
+                check(alloc, parsed.get(), limits, except, asked)
             }
         }
     }
@@ -95,65 +96,30 @@ struct Asked {
     explain: bool,
 }
 
-// The verdict on the trace that the parts hold, and what is asked for besides where it goes with that.
+// The verdict on the trace that the parts hold, and what is asked for besides if it goes with that.
 fn check(
     alloc: Global,
     parts: &[Parsed],
     limits: &Limits,
-    except: &Except,
+    except: &SharedExcept,
     asked: Asked,
 ) -> Result<Value, AllocError>
-    ensures { IfOk result (λ value. (trace : ℕ) → IsValueOf (Question.Check trace parts.now limits.now except.now asked.order asked.explain) value) }
+    ensures { IfOk result (λ value. (trace : ℕ) →
+        IsValueOf (Question.Check trace parts.now limits.now except.now asked.order asked.explain)
+        value) }
 {
-    if !asked.order {
-        return judge(alloc, parts, limits, except, asked.explain);
-    }
-    if asked.explain {
-        return find(alloc, parts, limits, except);
-    }
-    let (verdict, steps) = check_trace_in_order(alloc, parts, limits, except)?;
-    match steps {
-        Some(steps) => Ok(Value::Ordered(verdict, steps)),
-        None => Ok(Value::Judged(verdict)),
-    }
-}
-
-// The verdict on the trace that the parts hold, with its order or with what shows it, each where it goes with that.
-fn find(
-    alloc: Global,
-    parts: &[Parsed],
-    limits: &Limits,
-    except: &Except,
-) -> Result<Value, AllocError>
-    ensures { IfOk result (λ value. (trace : ℕ) → IsValueOf (Question.Check trace parts.now limits.now except.now true true) value) }
-{
-    let finding = check_trace_in_full(alloc, parts, limits, except)?;
-    Ok(value_of(finding))
-}
-
-// The verdict on the trace that the parts hold, and what shows it, where `explain` is true and that goes with it.
-fn judge(
-    alloc: Global,
-    parts: &[Parsed],
-    limits: &Limits,
-    except: &Except,
-    explain: bool,
-) -> Result<Value, AllocError>
-    ensures { IfOk result (λ value. (trace : ℕ) → IsValueOf (Question.Check trace parts.now limits.now except.now false explain) value) }
-{
-    if !explain {
-        let verdict = check_trace(alloc, parts, limits, except)?;
-        return Ok(Value::Judged(verdict));
-    }
-    let finding = explain_trace(alloc, parts, limits, except)?;
+    let terms = Terms::new(*limits, except.share()?, asked.order, asked.explain);
+    let finding = judge_trace(alloc, parts, &terms)?;
     Ok(value_of(finding))
 }
 
 // What is found of a trace, as the value of the question on it.
 fn value_of(finding: Finding) -> Value
-    requires { (parts : List Reading) × (terms : Terms) × IsTraceFinding parts terms finding }
-    ensures { (trace : ℕ) (parts : List Reading) (limits : Limits) (labels : Listed) (order explain : Bool) →
-        IsTraceFinding parts (asking limits labels order explain) finding → IsValueOf (Question.Check trace parts limits labels order explain) result }
+    requires { (parts : List Reading) × (terms : Judged) × IsTraceFinding parts terms finding }
+    ensures { (trace : ℕ) (parts : List Reading) (limits : Limits) (labels : Listed)
+        (order explain : Bool) →
+        IsTraceFinding parts (asking limits labels order explain) finding →
+        IsValueOf (Question.Check trace parts limits labels order explain) result }
 {
     match finding {
         Finding::Judged(verdict) => Value::Judged(verdict),

@@ -1,19 +1,17 @@
 -- Labels on the lines of texts, and what is added to those that were there.
-use Rattle.std.proofs.Common.{◌≡◌, ◌<◌, ◌≤◌, ◌+◌, ◌-◌, ◌^◌, ◌==◌, ◌||◌, ◌∙◌, ℕ, suc, Bool, true, false, if◌then◌else◌, List, [], ◌∷◌, ◌++◌, length, map, take, drop, Option, Some, ap, sym, subst, refl, arith, cond, length-append}
+use Rattle.std.proofs.Common.{◌≡◌, ◌<◌, ◌≤◌, ◌+◌, ◌^◌, ◌==◌, ◌||◌, ◌∙◌, ℕ, suc, true, false, List, [], ◌∷◌, ◌++◌, length, map, take, drop, Option, Some, ap, sym, subst, refl, arith, length-append}
 use Rattle.std.specs.Prelude.{slice_get}
-use Rattle.std.specs.List.{list_any, onto_first, slice_split}
+use Rattle.std.specs.List.{list_any}
 use Rattle.std.proofs.lemmas.Bool.{ne_eqb}
-use Rattle.std.proofs.lemmas.List.{append_assoc, append-nil, drop_all, map-append, take-append-drop, take_rest}
+use Rattle.std.proofs.lemmas.List.{append_assoc, append-nil, map-append, take-append-drop}
 use Rattle.std.proofs.lemmas.List.Concat.{flat_map-append}
 use Rattle.std.proofs.lemmas.List.Elements.{filter_map-append}
 use Rattle.std.proofs.lemmas.List.Folds.{list_any-append}
 use Rattle.std.proofs.lemmas.List.Sums.{fold-append}
 use Rattle.std.specs.Prelude.{bytes_eq}
 use Rattle.indexmap.specs.IndexSet.{insert_key}
-use Rattle.memchr.specs.Find.{Nowhere, NoneBefore, Passes, is_byte}
-use Rattle.aero_model.specs.Lines.{is_line_end, lines_of, without_empty_last}
+use Rattle.aero_model.specs.Lines.{lines_of}
 use Rattle.aero_program.proofs.Labelling.{take_with}
-use Rattle.aero_watch.proofs.Seen.{HasNoEnd, cut_at_end, found_end, found_none, line_cut}
 use Rattle.aero_model.specs.Exempt.{Listed}
 use Rattle.aero_program.specs.declared.command.Config.{Config}
 use Rattle.aero_program.specs.declared.label_files.Unlabelled.{Unlabelled}
@@ -21,36 +19,6 @@ use Rattle.aero_program.specs.declared.label_files.Unlabelled.TheVariants as unl
 use Rattle.aero_program.specs.LabelFiles.{AreListed, AreListedBy, AreOfFiles, AreTexts, FailsAt, IsFaultIn, IsFileFault, IsLineFault, IsUnreadFault, is_no_label, label_on, label_paths, labels_in, labels_in_all, labels_on, with_labels}
 use Rattle.aero_program.specs.Command.{listed_by}
 use Rattle.aero_program.specs.Listing.{IsWhole}
-
--- the first line
-
-or_first : (a b : Bool) → (a || b) ≡ false → a ≡ false
-or_first true b none = none
-or_first false b none = refl
-
-or_second : (a b : Bool) → (a || b) ≡ false → b ≡ false
-or_second true b none = cc
-or_second false b none = none
-
-split_alone : (line : List ℕ) → HasNoEnd line → slice_split is_line_end line ≡ line ∷ []
-split_alone [] none = refl
-split_alone (x ∷ line) none =
-    ap (λ parts. cond (is_line_end x) ([] ∷ parts) (onto_first x parts)) (split_alone line (or_second (is_line_end x) (list_any is_line_end line) none))
-    ∙ ap (λ b. cond b ([] ∷ (line ∷ [])) ((x ∷ line) ∷ [])) (or_first (is_line_end x) (list_any is_line_end line) none)
-
-pub first_cut : (text : List ℕ) (n : ℕ) → NoneBefore (Passes (is_byte 10) text) 0 (length text) n → Passes (is_byte 10) text n
-    → lines_of text ≡ take n text ∷ lines_of (take (length text - (n + 1)) (drop (n + 1) text))
-first_cut text n first here =
-    ap lines_of (cut_at_end text n first.high here ∙ append_assoc (take n text) (10 ∷ []) (drop (n + 1) text))
-    ∙ line_cut (take n text) (drop (n + 1) text) (found_end text n first)
-    ∙ ap (λ rest. take n text ∷ lines_of rest) (sym (take_rest text (n + 1)))
-
-pub last_alone : (text : List ℕ) → Nowhere (Passes (is_byte 10) text) 0 (length text) → 0 < length text
-    → lines_of text ≡ text ∷ lines_of (take (length text - length text) (drop (length text) text))
-last_alone text none some =
-    ap without_empty_last (split_alone text (found_none text none))
-    ∙ ap (λ b. if b then [] else text ∷ []) (ne_eqb (length text) 0 (λ e. omega (arith, e, some)))
-    ∙ ap (λ rest. text ∷ lines_of rest) (sym (take_rest text (length text) ∙ drop_all (length text) text (omega arith)))
 
 -- labels that are added
 

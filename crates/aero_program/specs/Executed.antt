@@ -10,7 +10,7 @@ use Rattle.aero_intake.specs.PlanTerms.{options_with}
 use Rattle.aero_intake.specs.Source.{Origin, Sight, Stream, origin_in}
 use Rattle.aero_report.specs.Forms.{summary_line_in}
 use Rattle.aero_report.specs.Options.{Note, Options}
-use Rattle.aero_verdict.specs.Finding.{Terms, asking}
+use Rattle.aero_model.specs.Terms.{Terms, asking}
 use Rattle.aero_batch.specs.declared.outcome.Cause.{Cause}
 use Rattle.aero_batch.specs.declared.outcome.Notable.{Notable}
 use Rattle.aero_batch.specs.Founds.{Sighted, Took, WasRunTo}

@@ -5,7 +5,8 @@ use Rattle.aero_model.specs.declared.verdict.Ending.{Ending}
 use Rattle.aero_model.specs.declared.verdict.Ending.TheVariants.{Whole, Stopped}
 use Rattle.aero_model.specs.CallCounts.{Seen}
 use Rattle.aero_report.specs.declared.form.Form.{Form}
-use Rattle.aero_verdict.specs.Finding.{Terms, IsFinding}
+use Rattle.aero_verdict.specs.Finding.{IsFinding}
+use Rattle.aero_model.specs.Terms.{Terms}
 use Rattle.aero_batch.specs.declared.outcome.Cause.{Cause}
 use Rattle.aero_batch.specs.declared.outcome.Notable.{Notable}
 use Rattle.aero_batch.specs.Founds.{Found, Sighted, WasRunTo}

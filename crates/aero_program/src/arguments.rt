@@ -48,7 +48,8 @@ pub fn words_of<R: Env>(alloc: Global, arguments: &R) -> Result<Vec<String>, Unr
 ///
 /// `NotUtf8` with the first word that isn't UTF-8; `Memory` where memory is refused.
 pub fn texts_of(alloc: Global, words: &[Vec<u8>]) -> Result<Vec<String>, Unread>
-    ensures texts { IfOk result (λ texts. map string_bytes texts.items ≡ map (λ word. word.items) words.now) }
+    ensures texts { IfOk result (λ texts. map string_bytes texts.items ≡
+        map (λ word. word.items) words.now) }
     ensures unread { IfErr result (IsUnread (map (λ word. word.items) words.now)) }
 {
     let mut texts = Vec::new(alloc);

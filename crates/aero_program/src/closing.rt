@@ -46,7 +46,8 @@ enum Stage {
 impl<R: Read + Drop> Closing<R> {
     /// A reader that gives what the reader within gives.
     pub fn plain(inner: R) -> Closing<R>
-        ensures { left_at result.stage result.came.bytes (R.remaining result.inner) ≡ R.remaining inner }
+        ensures { left_at result.stage result.came.bytes (R.remaining result.inner) ≡
+            R.remaining inner }
     {
         Closing {
             inner,
@@ -57,7 +58,8 @@ impl<R: Read + Drop> Closing<R> {
 
     /// A reader that gives the text of the reader within, and then the lines.
     pub fn new(alloc: Global, inner: R) -> Closing<R>
-        ensures bytes { left_at result.stage result.came.bytes (R.remaining result.inner) ≡ known_closed (R.remaining inner) }
+        ensures bytes { left_at result.stage result.came.bytes (R.remaining result.inner) ≡
+            known_closed (R.remaining inner) }
         ensures able { IsAble result.stage }
     {
         Closing {
@@ -78,8 +80,11 @@ impl<R: Read + Drop> Closing<R> {
     // What a read gives of the lines, where the end was found.
     fn give(&mut self, buf: &mut [u8]) -> Option<io::Result<usize>>
         ensures bound { IfSome result (λ r. ReadsAtMost r buf.new) }
-        ensures bytes { IfSome result (λ r. ReadConsumes (left_at self.old.stage self.old.came.bytes (R.remaining self.old.inner)) (left_at self.new.stage self.new.came.bytes (R.remaining self.new.inner)) r buf.new) }
-        ensures none { result ≡ None → (self.new ≡ self.old) × (buf.new ≡ buf.old) × IsWithin self.old.stage }
+        ensures bytes { IfSome result (λ r.
+            ReadConsumes (left_at self.old.stage self.old.came.bytes (R.remaining self.old.inner))
+            (left_at self.new.stage self.new.came.bytes (R.remaining self.new.inner)) r buf.new) }
+        ensures none { result ≡ None →
+            (self.new ≡ self.old) × (buf.new ≡ buf.old) × IsWithin self.old.stage }
     {
         match &mut self.stage {
             Stage::Lines(lines) => Some(lines.read(buf)),
@@ -91,8 +96,10 @@ impl<R: Read + Drop> Closing<R> {
     fn settle(&mut self, outcome: io::Result<usize>, buf: &mut [u8]) -> io::Result<usize>
         requires { ReadsAtMost outcome buf.old }
         ensures bound { ReadsAtMost result buf.new }
-        ensures bytes { (was : Option (List ℕ)) → ReadConsumes was (R.remaining self.old.inner) outcome buf.old → IsWithin self.old.stage
-            → ReadConsumes (left_at self.old.stage self.old.came.bytes was) (left_at self.new.stage self.new.came.bytes (R.remaining self.new.inner)) result buf.new }
+        ensures bytes { (was : Option (List ℕ)) →
+            ReadConsumes was (R.remaining self.old.inner) outcome buf.old → IsWithin self.old.stage
+            → ReadConsumes (left_at self.old.stage self.old.came.bytes was)
+            (left_at self.new.stage self.new.came.bytes (R.remaining self.new.inner)) result buf.new }
     {
         match outcome {
             Ok(0) if !buf.is_empty() => self.end(buf),
@@ -107,7 +114,9 @@ impl<R: Read + Drop> Closing<R> {
     // These bytes came.
     fn see(&mut self, piece: &[u8])
         ensures inner { self.new.inner ≡ self.old.inner }
-        ensures bytes { (was new : Option (List ℕ)) → Consumes was new piece.now → IsWithin self.old.stage → Consumes (left_at self.old.stage self.old.came.bytes was) (left_at self.new.stage self.new.came.bytes new) piece.now }
+        ensures bytes { (was new : Option (List ℕ)) → Consumes was new piece.now →
+            IsWithin self.old.stage → Consumes (left_at self.old.stage self.old.came.bytes was)
+            (left_at self.new.stage self.new.came.bytes new) piece.now }
     {
         let stage = mem::replace(&mut self.stage, Stage::Plain);
         self.stage = stage.fed(piece);
@@ -117,8 +126,10 @@ impl<R: Read + Drop> Closing<R> {
     // What a read gives that found the end of the reader within.
     fn end(&mut self, buf: &mut [u8]) -> io::Result<usize>
         ensures bound { ReadsAtMost result buf.new }
-        ensures bytes { (was : Option (List ℕ)) → Consumes was (R.remaining self.old.inner) [] → IsAtEnd (R.remaining self.old.inner) → IsWithin self.old.stage
-            → ReadConsumes (left_at self.old.stage self.old.came.bytes was) (left_at self.new.stage self.new.came.bytes (R.remaining self.new.inner)) result buf.new }
+        ensures bytes { (was : Option (List ℕ)) → Consumes was (R.remaining self.old.inner) [] →
+            IsAtEnd (R.remaining self.old.inner) → IsWithin self.old.stage
+            → ReadConsumes (left_at self.old.stage self.old.came.bytes was)
+            (left_at self.new.stage self.new.came.bytes (R.remaining self.new.inner)) result buf.new }
     {
         let closer = match &mut self.stage {
             Stage::Reading(closer) => closer,
@@ -138,7 +149,9 @@ impl Stage {
     // The stage after these bytes.
     fn fed(self, piece: &[u8]) -> Stage
         ensures knows { (came : List ℕ) → KnowsAll self came → KnowsAll result (came ++ piece.now) }
-        ensures bytes { (came : List ℕ) (was new : Option (List ℕ)) → Consumes was new piece.now → IsWithin self → Consumes (left_at self came was) (left_at result (came ++ piece.now) new) piece.now }
+        ensures bytes { (came : List ℕ) (was new : Option (List ℕ)) → Consumes was new piece.now →
+            IsWithin self → Consumes (left_at self came was)
+            (left_at result (came ++ piece.now) new) piece.now }
     {
         match self {
             Stage::Reading(mut closer) => {
@@ -224,7 +237,8 @@ impl<'a, F: Opener> Opener for ClosingFiles<'a, F> {
 
 // A file that was opened, and had this stamp.
 fn closing_of<R: Read + Drop>(alloc: Global, file: R, stamp: Option<Stamp>) -> Opened<Closing<R>>
-    ensures file { left_at result.file.stage result.file.came.bytes (R.remaining result.file.inner) ≡ known_closed (R.remaining file) }
+    ensures file { left_at result.file.stage result.file.came.bytes
+        (R.remaining result.file.inner) ≡ known_closed (R.remaining file) }
     ensures stamp { result.stamp ≡ stamp }
 {
     Opened {

@@ -166,7 +166,8 @@ impl Config {
         ensures workers { IfOk result (λ made. made.0.workers ≡ self.workers) }
         ensures piece { IfOk result (λ made. made.0.piece ≡ self.piece) }
         ensures limits { IfOk result (λ made. AreLimitsFor self.long made.0.terms.rules.limits) }
-        ensures except { IfOk result (λ made. made.0.terms.rules.labels ≡ unwrap_or set (listed_by self.except.items self.only.items)) }
+        ensures except { IfOk result (λ made. made.0.terms.rules.labels ≡
+            unwrap_or set (listed_by self.except.items self.only.items)) }
         ensures order { IfOk result (λ made. made.0.terms.order ≡ self.order) }
         ensures explain { IfOk result (λ made. made.0.terms.explain ≡ self.explain) }
         ensures stop { IfOk result (λ made. made.0.terms.stop ≡ self.stop) }

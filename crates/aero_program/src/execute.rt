@@ -89,10 +89,18 @@ pub fn execute<
 ) -> (u8, Option<Left<S>>)
 where
     F::File: Send,
-    ensures plain { ends_blocks asked ≡ false → Executes (F.known files.now) F.can_fail F.holds asked (S.remaining stdin) (left_plain_in S.remaining result.1) (shown_by O.contents streams.entry.output.now) (shown_by O.contents streams.exit.0.now)
-        (seen_by (λ w. E.contents (tried_by w)) streams.entry.errors.now) (seen_by (λ w. E.contents (tried_by w)) streams.exit.1.0.now) result.0 }
-    ensures closed { ends_blocks asked ≡ true → ExecutesClosed (F.known files.now) F.holds asked (S.remaining stdin) (left_closed_in S.remaining result.1) (shown_by O.contents streams.entry.output.now) (shown_by O.contents streams.exit.0.now)
-        (seen_by (λ w. E.contents (tried_by w)) streams.entry.errors.now) (seen_by (λ w. E.contents (tried_by w)) streams.exit.1.0.now) result.0 }
+    ensures plain { ends_blocks asked ≡ false →
+        Executes (F.known files.now) F.can_fail F.holds asked (S.remaining stdin)
+        (left_plain_in S.remaining result.1) (shown_by O.contents streams.entry.output.now)
+        (shown_by O.contents streams.exit.0.now)
+        (seen_by (λ w. E.contents (tried_by w)) streams.entry.errors.now)
+        (seen_by (λ w. E.contents (tried_by w)) streams.exit.1.0.now) result.0 }
+    ensures closed { ends_blocks asked ≡ true →
+        ExecutesClosed (F.known files.now) F.holds asked (S.remaining stdin)
+        (left_closed_in S.remaining result.1) (shown_by O.contents streams.entry.output.now)
+        (shown_by O.contents streams.exit.0.now)
+        (seen_by (λ w. E.contents (tried_by w)) streams.entry.errors.now)
+        (seen_by (λ w. E.contents (tried_by w)) streams.exit.1.0.now) result.0 }
 {
     if ends_blocks(&asked) {
         return execute_closed(host, asked, files, stdin, streams);
@@ -127,8 +135,11 @@ fn execute_closed<
 ) -> (u8, Option<Left<S>>)
 where
     F::File: Send,
-    ensures { ExecutesClosed (F.known files.now) F.holds asked (S.remaining stdin) (left_closed_in S.remaining result.1) (shown_by O.contents streams.entry.output.now) (shown_by O.contents streams.exit.0.now)
-        (seen_by (λ w. E.contents (tried_by w)) streams.entry.errors.now) (seen_by (λ w. E.contents (tried_by w)) streams.exit.1.0.now) result.0 }
+    ensures { ExecutesClosed (F.known files.now) F.holds asked (S.remaining stdin)
+        (left_closed_in S.remaining result.1) (shown_by O.contents streams.entry.output.now)
+        (shown_by O.contents streams.exit.0.now)
+        (seen_by (λ w. E.contents (tried_by w)) streams.entry.errors.now)
+        (seen_by (λ w. E.contents (tried_by w)) streams.exit.1.0.now) result.0 }
 {
     let closing = ClosingFiles::new(host.alloc, files);
     let stdin = Closing::new(host.alloc, stdin);
@@ -152,8 +163,11 @@ fn execute_over<
 ) -> (u8, Option<Retrying<S>>)
 where
     F::File: Send,
-    ensures { Executes (F.known files.now) F.can_fail F.holds asked (S.remaining stdin) (option_map (seen_within S.remaining) result.1) (shown_by O.contents streams.entry.output.now) (shown_by O.contents streams.exit.0.now)
-        (seen_by (λ w. E.contents (tried_by w)) streams.entry.errors.now) (seen_by (λ w. E.contents (tried_by w)) streams.exit.1.0.now) result.0 }
+    ensures { Executes (F.known files.now) F.can_fail F.holds asked (S.remaining stdin)
+        (option_map (seen_within S.remaining) result.1)
+        (shown_by O.contents streams.entry.output.now) (shown_by O.contents streams.exit.0.now)
+        (seen_by (λ w. E.contents (tried_by w)) streams.entry.errors.now)
+        (seen_by (λ w. E.contents (tried_by w)) streams.exit.1.0.now) result.0 }
 {
     let Streams { output, errors } = streams;
     match asked {
@@ -170,8 +184,10 @@ fn stop_for<S: Read + Drop, O: Write, E: Write>(
     output: &mut Output<O>,
     errors: &mut Counting<E>,
 ) -> (u8, Option<Retrying<S>>)
-    ensures untouched { IsUntouched (S.remaining stdin) (option_map (seen_within S.remaining) result.1) }
-    ensures stops { Stops stop (shown_by O.contents output.old) (shown_by O.contents output.new) (seen_by E.contents errors.old) (seen_by E.contents errors.new) result.0 }
+    ensures untouched { IsUntouched (S.remaining stdin)
+        (option_map (seen_within S.remaining) result.1) }
+    ensures stops { Stops stop (shown_by O.contents output.old) (shown_by O.contents output.new)
+        (seen_by E.contents errors.old) (seen_by E.contents errors.new) result.0 }
 {
     let status = tell_stop(alloc, &stop, output, errors);
     (status, Some(untouched(stdin)))
@@ -205,7 +221,9 @@ fn judge<
 ) -> (u8, Option<Retrying<S>>)
 where
     F::File: Send,
-    ensures { Judges (F.known place.entry.files.now) F.can_fail F.holds config (S.remaining stdin) (option_map (seen_within S.remaining) result.1) (shown_by O.contents output.old) (shown_by O.contents output.new)
+    ensures { Judges (F.known place.entry.files.now) F.can_fail F.holds config (S.remaining stdin)
+        (option_map (seen_within S.remaining) result.1) (shown_by O.contents output.old)
+        (shown_by O.contents output.new)
         (seen_by E.contents errors.old) (seen_by E.contents errors.new) result.0 }
 {
     let Place { host, files } = place;
@@ -238,8 +256,11 @@ fn judge_by<
 ) -> (u8, Option<Retrying<S>>)
 where
     F::File: Send,
-    requires { AreListed (F.known place.files.now) chosen.config (unwrap_or chosen.set (listed_by chosen.config.except.items chosen.config.only.items)) }
-    ensures { Judges (F.known place.entry.files.now) F.can_fail F.holds chosen.config (S.remaining stdin) (option_map (seen_within S.remaining) result.1) (shown_by O.contents output.old) (shown_by O.contents output.new)
+    requires { AreListed (F.known place.files.now) chosen.config
+        (unwrap_or chosen.set (listed_by chosen.config.except.items chosen.config.only.items)) }
+    ensures { Judges (F.known place.entry.files.now) F.can_fail F.holds chosen.config
+        (S.remaining stdin) (option_map (seen_within S.remaining) result.1)
+        (shown_by O.contents output.old) (shown_by O.contents output.new)
         (seen_by E.contents errors.old) (seen_by E.contents errors.new) result.0 }
 {
     let Place { host, files } = place;
@@ -268,7 +289,7 @@ where
     let (report, sources) = run_all(host, in_lanes, sources, &mut output.writer, &plan);
     let labels = told_of(
         plan.terms.except().labels(),
-        all_read(report.cause, &report.endings),
+        all_read(report.cause, &report.told.endings),
     );
     let unused = unused_labels(alloc, &sources, labels);
     let looker = Looker::new(alloc, files);
@@ -280,7 +301,7 @@ where
     };
     let cause = sum_up_with(alloc, &plan, &report, &beside, &mut output.writer);
     let flushed = output.flush();
-    let end = end_after(cause, &report.counts, &flushed, fail_open);
+    let end = end_after(cause, &report.told.counts, &flushed, fail_open);
     let told = told_after(&beside.unused, cause);
     let lines = all_lines(alloc, &beside.notes, told, on_terminal);
     (finish(end, lines, errors), left_beside(rest, sources))
@@ -292,7 +313,9 @@ fn left_beside<S: Read + Drop, F: Opener + Drop>(
     sources: Vec<SourceOf<Traced<S, F>>>,
 ) -> Option<Retrying<S>>
     ensures kept { IsSome rest → result ≡ rest }
-    ensures source { rest ≡ None → vec_len sources ≡ 1 → (s : Sighted) → slice_get (map (sighted (sight_of S.remaining F.known F.File.remaining)) sources.items) 0 ≡ Some s
+    ensures source { rest ≡ None → vec_len sources ≡ 1 → (s : Sighted) →
+        slice_get (map (sighted (sight_of S.remaining F.known F.File.remaining)) sources.items) 0 ≡
+        Some s
         → IsLeftOf s (option_map (seen_within S.remaining) result) }
 {
     match rest {
@@ -305,7 +328,9 @@ fn left_beside<S: Read + Drop, F: Opener + Drop>(
 fn standard_left<S: Read + Drop, F: Opener + Drop>(
     mut sources: Vec<SourceOf<Traced<S, F>>>,
 ) -> Option<Retrying<S>>
-    ensures { vec_len sources ≡ 1 → (s : Sighted) → slice_get (map (sighted (sight_of S.remaining F.known F.File.remaining)) sources.items) 0 ≡ Some s
+    ensures { vec_len sources ≡ 1 → (s : Sighted) →
+        slice_get (map (sighted (sight_of S.remaining F.known F.File.remaining)) sources.items) 0 ≡
+        Some s
         → IsLeftOf s (option_map (seen_within S.remaining) result) }
 {
     let source = sources.pop()?;
@@ -331,9 +356,13 @@ fn sum_up_with<W: Write>(
     beside: &Asides<'_>,
     writer: &mut Counting<W>,
 ) -> Option<Cause>
-    ensures summed { (text : List ℕ) → IfSome beside.now.unused (λ names. IfSome beside.now.notes (λ notes.
-        summary_line_in plan.now.form (record (options_with (terms_of plan.now) (map (λ label. label.now) names.items) (map note_of notes.items)) { end = beside.now.end }) report.now.counts ≡ text))
-        → SumsUp text report.now.cause (seen_by W.contents writer.old) (seen_by W.contents writer.new) result }
+    ensures summed { (text : List ℕ) →
+        IfSome beside.now.unused (λ names. IfSome beside.now.notes (λ notes.
+        summary_line_in plan.now.form (record
+        (options_with (terms_of plan.now) (map (λ label. label.now) names.items)
+        (map note_of notes.items)) { end = beside.now.end }) report.now.told.counts ≡ text))
+        → SumsUp text report.now.cause (seen_by W.contents writer.old)
+        (seen_by W.contents writer.new) result }
     ensures known { result ≡ None → IsSome beside.now.unused }
     ensures whole { result ≡ None → report.now.cause ≡ None }
 {
@@ -350,7 +379,7 @@ fn sum_up_with<W: Write>(
     let options = plan
         .options_with(names.as_slice(), notes.as_slice())
         .ending(beside.end);
-    sum_up(style, options, &report.counts, report.cause, writer)
+    sum_up(style, options, &report.told.counts, report.cause, writer)
 }
 
 // Why a run stops to which memory is refused behind its lines, where it may have stopped before.
@@ -393,10 +422,13 @@ fn all_notes<S: Read + Drop, F: Opener + Drop, G: Opener>(
     long: bool,
     are_words: bool,
 ) -> Option<Vec<Note>>
-    ensures { IfSome result (λ notes. AreNotes G.holds (noted_of_all input_of unused_in are_words sources.now (if long then [] else report.now.endings.items) report.now.notables.items) (map note_of notes.items)) }
+    ensures { IfSome result (λ notes.
+        AreNotes G.holds (noted_of_all input_of unused_in are_words sources.now
+        (if long then [] else report.now.told.endings.items) report.now.told.notables.items)
+        (map note_of notes.items)) }
 {
-    let endings = noted(&report.endings, long);
-    match notes_of(looker, sources, endings, &report.notables, are_words) {
+    let endings = noted(&report.told.endings, long);
+    match notes_of(looker, sources, endings, &report.told.notables, are_words) {
         Ok(notes) => Some(notes),
         Err(_) => None,
     }
@@ -410,7 +442,9 @@ fn all_lines(
     on_terminal: bool,
 ) -> Result<Vec<u8>, AllocError>
     ensures known { IfOk result (λ text. IsSome notes.now) }
-    ensures lines { IfOk result (λ text. IfSome notes.now (λ notes. text.items ≡ note_texts on_terminal (map note_of notes.items) ++ label_lines on_terminal (map (λ label. label.now) unused.now))) }
+    ensures lines { IfOk result (λ text.
+        IfSome notes.now (λ notes. text.items ≡ note_texts on_terminal (map note_of notes.items) ++
+        label_lines on_terminal (map (λ label. label.now) unused.now))) }
 {
     let Some(notes) = notes else {
         return Err(AllocError);
@@ -437,8 +471,10 @@ fn run_all<R: Followed + Drop + Send, W: Write, T: Threads + Wait + Copy + Send 
     plan: &Plan,
 ) -> (Report, Vec<SourceOf<R>>)
     requires { vec_len sources ≤ 65536 }
-    ensures told { WasTold (terms_of plan.now) plan.now.form (map (sighted R.sight) sources.items) (map (sighted R.sight) result.1.items)
-        (seen_by W.contents writer.old) (seen_by W.contents writer.new) result.0.endings.items result.0.notables.items result.0.counts result.0.cause }
+    ensures told { WasTold (terms_of plan.now) plan.now.form (map (sighted R.sight) sources.items)
+        (map (sighted R.sight) result.1.items)
+        (seen_by W.contents writer.old) (seen_by W.contents writer.new) result.0.told.endings.items
+        result.0.told.notables.items result.0.told.counts result.0.cause }
 {
     if in_lanes {
         return run_in_lanes(host.rt, host.alloc, sources, writer, plan);
@@ -454,7 +490,8 @@ fn tell_unlisted<E: Write>(
     on_terminal: bool,
     errors: &mut Counting<E>,
 ) -> u8
-    ensures { TellsUnlisted on_terminal path.now why (seen_by E.contents errors.old) (seen_by E.contents errors.new) result
+    ensures { TellsUnlisted on_terminal path.now why (seen_by E.contents errors.old)
+        (seen_by E.contents errors.new) result
         ⊎ Fails Memory (seen_by E.contents errors.old) (seen_by E.contents errors.new) result }
 {
     match why {
@@ -472,7 +509,8 @@ fn tell_unread<E: Write>(
     on_terminal: bool,
     errors: &mut Counting<E>,
 ) -> u8
-    ensures { TellsUnlisted on_terminal path.now (Unread reason) (seen_by E.contents errors.old) (seen_by E.contents errors.new) result
+    ensures { TellsUnlisted on_terminal path.now (Unread reason) (seen_by E.contents errors.old)
+        (seen_by E.contents errors.new) result
         ⊎ Fails Memory (seen_by E.contents errors.old) (seen_by E.contents errors.new) result }
 {
     let Ok(line) = reason_note(alloc, path.as_bytes(), reason, on_terminal) else {
@@ -489,7 +527,8 @@ fn tell_label_fault<E: Write>(
     on_terminal: bool,
     errors: &mut Counting<E>,
 ) -> u8
-    ensures { TellsUnlabelled on_terminal fault.entry.path.now fault.entry.why (seen_by E.contents errors.old) (seen_by E.contents errors.new) result
+    ensures { TellsUnlabelled on_terminal fault.entry.path.now fault.entry.why
+        (seen_by E.contents errors.old) (seen_by E.contents errors.new) result
         ⊎ Fails Memory (seen_by E.contents errors.old) (seen_by E.contents errors.new) result }
 {
     let path = fault.path;
@@ -522,7 +561,9 @@ fn tell_on_line<E: Write>(
     on_terminal: bool,
     errors: &mut Counting<E>,
 ) -> u8
-    ensures { (IsTold (seen_by E.contents errors.old) (seen_by E.contents errors.new) (note_text on_terminal (note_at at.entry.path.now (Some at.entry.line) words.now)) × (result ≡ 3))
+    ensures { (IsTold (seen_by E.contents errors.old) (seen_by E.contents errors.new)
+        (note_text on_terminal (note_at at.entry.path.now (Some at.entry.line) words.now)) ×
+        (result ≡ 3))
         ⊎ Fails Memory (seen_by E.contents errors.old) (seen_by E.contents errors.new) result }
 {
     let Ok(line) = line_note(alloc, at.path.as_bytes(), at.line, words, on_terminal) else {
@@ -545,7 +586,8 @@ fn finish<E: Write>(
     notes: Result<Vec<u8>, AllocError>,
     errors: &mut Counting<E>,
 ) -> u8
-    ensures { (text : List ℕ) → IfOk notes (λ notes. notes.items ≡ text) → Ends text end (seen_by E.contents errors.old) (seen_by E.contents errors.new) result }
+    ensures { (text : List ℕ) → IfOk notes (λ notes. notes.items ≡ text) →
+        Ends text end (seen_by E.contents errors.old) (seen_by E.contents errors.new) result }
 {
     let Ok(notes) = notes else {
         return match end {
@@ -589,7 +631,8 @@ fn tell_stop<O: Write, E: Write>(
 
 // Tells why the words can't be had.
 fn tell_no_words<E: Write>(alloc: Global, why: &arguments::Unread, errors: &mut Counting<E>) -> u8
-    ensures { TellsNoWords why.now (seen_by E.contents errors.old) (seen_by E.contents errors.new) result }
+    ensures { TellsNoWords why.now (seen_by E.contents errors.old) (seen_by E.contents errors.new)
+        result }
 {
     match why {
         arguments::Unread::NotUtf8(word) => tell_odd_word(alloc, word, errors),
@@ -599,7 +642,8 @@ fn tell_no_words<E: Write>(alloc: Global, why: &arguments::Unread, errors: &mut 
 
 // Tells which word isn't UTF-8.
 fn tell_odd_word<E: Write>(alloc: Global, word: &[u8], errors: &mut Counting<E>) -> u8
-    ensures { TellsWord word.now (seen_by E.contents errors.old) (seen_by E.contents errors.new) result }
+    ensures { TellsWord word.now (seen_by E.contents errors.old) (seen_by E.contents errors.new)
+        result }
 {
     let Ok(line) = odd_word_line(alloc, word) else {
         return fail(Failure::NotUtf8, errors);
@@ -633,8 +677,10 @@ fn fail<E: Write>(failure: Failure, errors: &mut Counting<E>) -> u8
 
 // Writes a text, or a front of it where a write fails.
 fn tell<W: Write>(writer: &mut Counting<W>, text: &[u8]) -> Result<(), Cut>
-    ensures whole { OnOk result (Took (seen_by W.contents writer.old) (seen_by W.contents writer.new) text.now) }
-    ensures cut { OnErr result (WasCut (seen_by W.contents writer.old) (seen_by W.contents writer.new) text.now) }
+    ensures whole { OnOk result (Took (seen_by W.contents writer.old)
+        (seen_by W.contents writer.new) text.now) }
+    ensures cut { OnErr result (WasCut (seen_by W.contents writer.old)
+        (seen_by W.contents writer.new) text.now) }
 {
     put(writer, text)
 }

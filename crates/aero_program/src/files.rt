@@ -40,20 +40,24 @@ pub trait Opener {
     fn open(&self, path: &str) -> io::Result<Opened<Self::File>>
         ensures worked { IfOk result (λ _. can_open path.now) }
         ensures failed { IfErr result (λ _. can_fail path.now) }
-        ensures given { IfOk result (λ opened. Keeps (known self.now path.now) (Self.File.remaining opened.file)) }
-        ensures stamped { IfOk result (λ opened. IfSome opened.stamp (λ stamp. holds path.now stamp (Self.File.remaining opened.file))) };
+        ensures given { IfOk result (λ opened. Keeps (known self.now path.now)
+            (Self.File.remaining opened.file)) }
+        ensures stamped { IfOk result (λ opened.
+            IfSome opened.stamp (λ stamp. holds path.now stamp (Self.File.remaining opened.file))) };
 
     /// One read of a file that `open` gave, as that of std's `Read`. Contracts don't see at which path it was opened: a read
     /// fails only if a file may fail wherever it is.
     fn read_file(file: &mut Self::File, buf: &mut [u8]) -> io::Result<usize>
         ensures bound { ReadsAtMost result buf.new }
-        ensures bytes { ReadConsumes (Self.File.remaining file.old) (Self.File.remaining file.new) result buf.new }
+        ensures bytes { ReadConsumes (Self.File.remaining file.old) (Self.File.remaining file.new)
+            result buf.new }
         ensures failed { IfErr result (λ _. (path : List ℕ) → can_fail path) };
 
     /// Opens it again once the run is over, which no meter hears of.
     fn open_again(&self, path: &str) -> io::Result<Opened<Self::File>>
         ensures worked { IfOk result (λ _. can_open path.now) }
-        ensures stamped { IfOk result (λ opened. IfSome opened.stamp (λ stamp. holds path.now stamp (Self.File.remaining opened.file))) };
+        ensures stamped { IfOk result (λ opened.
+            IfSome opened.stamp (λ stamp. holds path.now stamp (Self.File.remaining opened.file))) };
 
     /// Whether there is a plain file at the path, of which no read waits.
     fn is_plain(&self, path: &str) -> bool;

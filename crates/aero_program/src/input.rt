@@ -60,7 +60,8 @@ impl<S: Read + Drop, O: Opener + Drop> Input<S, O> {
 
     /// Standard input.
     pub fn standard(stdin: S) -> Input<S, O>
-        ensures standing { standing_of S.remaining O.known O.File.remaining result ≡ Standard (unread (S.remaining stdin)) }
+        ensures standing { standing_of S.remaining O.known O.File.remaining result ≡
+            Standard (unread (S.remaining stdin)) }
         ensures start { start_of result ≡ [] }
         ensures reason { reason_of result ≡ None }
         ensures opened { opened_of result ≡ None }
@@ -75,7 +76,9 @@ impl<S: Read + Drop, O: Opener + Drop> Input<S, O> {
 
     /// The file at the path, which isn't touched yet. `-` is a path like any other.
     pub fn path(alloc: Global, files: O, path: &str) -> Result<Input<S, O>, AllocError>
-        ensures standing { IfOk result (λ input. standing_of S.remaining O.known O.File.remaining input ≡ unopened (O.known files) path.now) }
+        ensures standing { IfOk result
+            (λ input. standing_of S.remaining O.known O.File.remaining input ≡
+            unopened (O.known files) path.now) }
         ensures start { IfOk result (λ input. start_of input ≡ []) }
         ensures reason { IfOk result (λ input. reason_of input ≡ None) }
         ensures opened { IfOk result (λ input. opened_of input ≡ None) }
@@ -120,8 +123,11 @@ impl<S: Read + Drop, O: Opener + Drop> Input<S, O> {
     ///
     /// `AllocError` where memory is refused now, or was to the watch.
     pub fn lacks(&self, label: &[u8]) -> Result<bool, AllocError>
-        ensures settled { IfOk result (λ lacks. lacks ≡ list_any (bytes_eq label.now) (missing_of self.now)) }
-        ensures whole { (came : List ℕ) → HasWatched self.now.watch came → IfOk result (λ lacks. lacks ≡ list_any (bytes_eq label.now) (unbegun (watched_in self.now.watch) came)) }
+        ensures settled { IfOk result (λ lacks. lacks ≡
+            list_any (bytes_eq label.now) (missing_of self.now)) }
+        ensures whole { (came : List ℕ) → HasWatched self.now.watch came →
+            IfOk result (λ lacks. lacks ≡ list_any (bytes_eq label.now)
+            (unbegun (watched_in self.now.watch) came)) }
     {
         match &self.watch {
             Some(watch) => watch.lacks(label),
@@ -131,7 +137,8 @@ impl<S: Read + Drop, O: Opener + Drop> Input<S, O> {
 
     /// Standard input, if it is that, as the reads of it have left it.
     pub fn into_standard(self) -> Option<Retrying<S>>
-        ensures { IsStandardOf (standing_of S.remaining O.known O.File.remaining self) (option_map (seen_within S.remaining) result) }
+        ensures { IsStandardOf (standing_of S.remaining O.known O.File.remaining self)
+            (option_map (seen_within S.remaining) result) }
     {
         let Input { stage, .. } = self;
         match stage {
@@ -192,14 +199,21 @@ impl<S: Read + Drop, O: Opener + Drop> Read for Input<S, O> {
 
     fn read(&mut self, buf: &mut [u8]) -> io::Result<usize>
         ensures bound { ReadsAtMost result buf.new }
-        ensures bytes { ReadConsumes (bytes_left (standing_of S.remaining O.known O.File.remaining self.old)) (bytes_left (standing_of S.remaining O.known O.File.remaining self.new)) result buf.new }
-        ensures steps { StepsTo O.can_open (standing_of S.remaining O.known O.File.remaining self.old) (standing_of S.remaining O.known O.File.remaining self.new) buf.new result }
-        ensures failed { IfErr result (λ _. MayFailFrom O.can_fail (standing_of S.remaining O.known O.File.remaining self.old)) }
-        ensures opened { OpensTo O.holds (standing_of S.remaining O.known O.File.remaining self.old) (opened_of self.old) (opened_of self.new) }
+        ensures bytes { ReadConsumes (bytes_left
+            (standing_of S.remaining O.known O.File.remaining self.old))
+            (bytes_left (standing_of S.remaining O.known O.File.remaining self.new)) result buf.new }
+        ensures steps { StepsTo O.can_open
+            (standing_of S.remaining O.known O.File.remaining self.old)
+            (standing_of S.remaining O.known O.File.remaining self.new) buf.new result }
+        ensures failed { IfErr result (λ _.
+            MayFailFrom O.can_fail (standing_of S.remaining O.known O.File.remaining self.old)) }
+        ensures opened { OpensTo O.holds (standing_of S.remaining O.known O.File.remaining self.old)
+            (opened_of self.old) (opened_of self.new) }
         ensures start { start_of self.new ≡ start_after (start_of self.old) result buf.new }
         ensures reason { reason_of self.new ≡ reason_after raw_os_error (reason_of self.old) result }
         ensures watched { watched_in self.new.watch ≡ watched_in self.old.watch }
-        ensures seen { (came : List ℕ) → HasWatched self.old.watch came → HasWatched self.new.watch (came_after came result buf.new) }
+        ensures seen { (came : List ℕ) → HasWatched self.old.watch came →
+            HasWatched self.new.watch (came_after came result buf.new) }
     {
         let (stage, outcome) = mem::replace(&mut self.stage, Stage::Ended(None)).read(buf);
         self.stage = stage;
@@ -223,10 +237,17 @@ impl<S: Read + Drop, O: Opener + Drop> Stage<S, O> {
     // One read, and the stage after it.
     fn read(self, buf: &mut [u8]) -> (Stage<S, O>, io::Result<usize>)
         ensures bound { ReadsAtMost result.1 buf.new }
-        ensures bytes { ReadConsumes (bytes_left (stage_standing S.remaining O.known O.File.remaining self)) (bytes_left (stage_standing S.remaining O.known O.File.remaining result.0)) result.1 buf.new }
-        ensures steps { StepsTo O.can_open (stage_standing S.remaining O.known O.File.remaining self) (stage_standing S.remaining O.known O.File.remaining result.0) buf.new result.1 }
-        ensures failed { IfErr result.1 (λ _. MayFailFrom O.can_fail (stage_standing S.remaining O.known O.File.remaining self)) }
-        ensures opened { OpensTo O.holds (stage_standing S.remaining O.known O.File.remaining self) (stage_opened self) (stage_opened result.0) }
+        ensures bytes { ReadConsumes (bytes_left
+            (stage_standing S.remaining O.known O.File.remaining self))
+            (bytes_left (stage_standing S.remaining O.known O.File.remaining result.0)) result.1
+            buf.new }
+        ensures steps { StepsTo O.can_open
+            (stage_standing S.remaining O.known O.File.remaining self)
+            (stage_standing S.remaining O.known O.File.remaining result.0) buf.new result.1 }
+        ensures failed { IfErr result.1
+            (λ _. MayFailFrom O.can_fail (stage_standing S.remaining O.known O.File.remaining self)) }
+        ensures opened { OpensTo O.holds (stage_standing S.remaining O.known O.File.remaining self)
+            (stage_opened self) (stage_opened result.0) }
     {
         match self {
             Stage::Standard(mut stdin) => {
@@ -265,8 +286,11 @@ impl<S: Read + Drop, O: Opener + Drop> Stage<S, O> {
         buf: &mut [u8],
     ) -> (Stage<S, O>, io::Result<usize>)
         ensures bound { ReadsAtMost result.1 buf.new }
-        ensures bytes { ReadConsumes (O.File.remaining file) (bytes_left (stage_standing S.remaining O.known O.File.remaining result.0)) result.1 buf.new }
-        ensures leaves { Leaves (stage_standing S.remaining O.known O.File.remaining result.0) buf.new result.1 }
+        ensures bytes { ReadConsumes (O.File.remaining file)
+            (bytes_left (stage_standing S.remaining O.known O.File.remaining result.0)) result.1
+            buf.new }
+        ensures leaves { Leaves (stage_standing S.remaining O.known O.File.remaining result.0)
+            buf.new result.1 }
         ensures failed { IfErr result.1 (λ _. (path : List ℕ) → O.can_fail path) }
         ensures opened { stage_opened result.0 ≡ stamp }
     {
@@ -284,7 +308,8 @@ impl<S: Read + Drop, O: Opener + Drop> Stage<S, O> {
 // Lets the watch see the next bytes, if there is one.
 fn feed(watch: &mut Option<Watch>, piece: &[u8])
     ensures watched { watched_in watch.new ≡ watched_in watch.old }
-    ensures seen { (came : List ℕ) → HasWatched watch.old came → HasWatched watch.new (came ++ piece.now) }
+    ensures seen { (came : List ℕ) → HasWatched watch.old came →
+        HasWatched watch.new (came ++ piece.now) }
 {
     if let Some(watch) = watch {
         watch.feed(piece);
@@ -296,8 +321,10 @@ fn open<O: Opener>(files: &O, path: &str) -> io::Result<Opened<O::File>>
     ensures lasting { IfErr result (λ e. error_kind e ≢ Interrupted) }
     ensures worked { IfOk result (λ _. O.can_open path.now) }
     ensures failed { IfErr result (λ _. O.can_fail path.now) }
-    ensures given { IfOk result (λ opened. Keeps (O.known files.now path.now) (O.File.remaining opened.file)) }
-    ensures stamped { IfOk result (λ opened. IfSome opened.stamp (λ stamp. O.holds path.now stamp (O.File.remaining opened.file))) }
+    ensures given { IfOk result (λ opened. Keeps (O.known files.now path.now)
+        (O.File.remaining opened.file)) }
+    ensures stamped { IfOk result (λ opened.
+        IfSome opened.stamp (λ stamp. O.holds path.now stamp (O.File.remaining opened.file))) }
 {
     for _ in 0..u64::MAX {
         match files.open(path) {
@@ -312,7 +339,8 @@ fn open<O: Opener>(files: &O, path: &str) -> io::Result<Opened<O::File>>
 // Reads an open file once. A read that is interrupted is tried again.
 fn read_on<O: Opener>(file: &mut O::File, buf: &mut [u8]) -> io::Result<usize>
     ensures bound { ReadsAtMost result buf.new }
-    ensures bytes { ReadConsumes (O.File.remaining file.old) (O.File.remaining file.new) result buf.new }
+    ensures bytes { ReadConsumes (O.File.remaining file.old) (O.File.remaining file.new) result
+        buf.new }
     ensures lasting { IfErr result (λ e. error_kind e ≢ Interrupted) }
     ensures failed { IfErr result (λ _. (path : List ℕ) → O.can_fail path) }
 {

@@ -1,7 +1,6 @@
 //! Labels in files, one on each line.
 ghost use Rattle.std.specs.Prelude.{◌≡◌, ◌<◌, ◌≤◌, ◌^◌, ◌+◌, ◌++◌, ◌∷◌, ℕ, List, [], None, Some, if◌then◌else◌, IfErr, IfOk, OnOk, false, length, map, option_map, string_bytes, unwrap_or};
 ghost use Rattle.std.specs.List.{list_any};
-ghost use Rattle.aero_model.specs.Lines.{lines_of};
 ghost use Rattle.aero_program.specs.declared.label_files.Unlabelled.TheVariants.{Memory};
 ghost use Rattle.aero_program.specs.Command.{listed_by};
 ghost use Rattle.aero_program.specs.Inputs.{MayFailFrom, bytes_left, standing_of};
@@ -12,11 +11,10 @@ use crate::command::Config;
 use crate::files::Opener;
 use crate::input::Input;
 use crate::reason::Reason;
-use aero_grammar::bytes::{trimmed, without_return};
+use aero_grammar::bytes::{first_line, trimmed, without_return};
 use aero_model::except::MOST_LABELS_OF_SET;
 use aero_model::{Except, Name, NameFault};
 use indexmap::IndexSet;
-use memchr::memchr;
 use std::alloc::{AllocError, Global};
 use std::io::Read;
 
@@ -65,8 +63,10 @@ pub fn label_set<'a, F: Opener + Drop>(
     files: &F,
     config: &'a Config,
 ) -> Result<Option<Except>, LabelFault<'a>>
-    ensures listed { IfOk result (λ set. AreListed (F.known files.now) config.entry.now (unwrap_or set (listed_by config.entry.now.except.items config.entry.now.only.items))) }
-    ensures fault { IfErr result (λ fault. AreUnlabelled (F.known files.now) F.can_fail config.entry.now fault.path.now fault.why) }
+    ensures listed { IfOk result (λ set. AreListed (F.known files.now) config.entry.now
+        (unwrap_or set (listed_by config.entry.now.except.items config.entry.now.only.items))) }
+    ensures fault { IfErr result (λ fault. AreUnlabelled (F.known files.now) F.can_fail
+        config.entry.now fault.path.now fault.why) }
 {
     let paths = label_paths(config);
     if paths.is_empty() {
@@ -84,7 +84,8 @@ fn set_with_files<'a, F: Opener + Drop>(
 ) -> Result<Except, LabelFault<'a>>
     requires { map string_bytes paths.now ≡ label_paths config.now }
     ensures listed { IfOk result (AreOfFiles (F.known files.now) config.entry.now) }
-    ensures fault { IfErr result (λ fault. AreUnlabelled (F.known files.now) F.can_fail config.entry.now fault.path.now fault.why) }
+    ensures fault { IfErr result (λ fault. AreUnlabelled (F.known files.now) F.can_fail
+        config.entry.now fault.path.now fault.why) }
 {
     let Ok(own) = own_set(alloc, own_labels(config)) else {
         return Err(refused());
@@ -165,9 +166,12 @@ fn with_files<'a, F: Opener + Drop>(
     labels: IndexSet<Name>,
 ) -> Result<IndexSet<Name>, LabelFault<'a>>
     requires { length labels.keys ≤ 2 ^ 16 }
-    ensures added { IfOk result (λ all. (texts : List (List ℕ)) × AreTexts (F.known files.now) (map string_bytes paths.entry.now) texts × (all.keys ≡ with_labels labels.keys (labels_in_all texts))) }
+    ensures added { IfOk result (λ all. (texts : List (List ℕ)) ×
+        AreTexts (F.known files.now) (map string_bytes paths.entry.now) texts ×
+        (all.keys ≡ with_labels labels.keys (labels_in_all texts))) }
     ensures few { IfOk result (λ all. length all.keys ≤ 2 ^ 16) }
-    ensures fault { IfErr result (λ fault. FailsAt (F.known files.now) F.can_fail labels.keys (map string_bytes paths.entry.now) fault.path.now fault.why) }
+    ensures fault { IfErr result (λ fault. FailsAt (F.known files.now) F.can_fail labels.keys
+        (map string_bytes paths.entry.now) fault.path.now fault.why) }
 {
     let mut labels = labels;
     for path in paths {
@@ -187,9 +191,12 @@ fn add_file<F: Opener + Drop>(
     labels: &mut IndexSet<Name>,
 ) -> Result<(), Unlabelled>
     requires { length labels.old.keys ≤ 2 ^ 16 }
-    ensures added { OnOk result ((text : List ℕ) × IsWhole (F.known files.now path.now) text × (list_any is_no_label (labels_in text) ≡ false) × (labels.new.keys ≡ with_labels labels.old.keys (labels_in text))) }
+    ensures added { OnOk result ((text : List ℕ) × IsWhole (F.known files.now path.now) text ×
+        (list_any is_no_label (labels_in text) ≡ false) ×
+        (labels.new.keys ≡ with_labels labels.old.keys (labels_in text))) }
     ensures few { OnOk result (length labels.new.keys ≤ 2 ^ 16) }
-    ensures fault { IfErr result (IsFileFault (F.known files.now) F.can_fail labels.old.keys path.now) }
+    ensures fault { IfErr result (IsFileFault (F.known files.now) F.can_fail labels.old.keys
+        path.now) }
 {
     match text_at(alloc, files, path) {
         Ok(text) => add_lines(alloc, &text, labels),
@@ -217,8 +224,12 @@ fn label_input<'a, F: Opener + Drop>(
     files: &'a F,
     path: &str,
 ) -> Result<Input<F::File, &'a F>, AllocError>
-    ensures bytes { IfOk result (λ input. bytes_left (standing_of F.File.remaining (λ f. F.known f.now) F.File.remaining input) ≡ F.known files.entry.now path.now) }
-    ensures failing { IfOk result (λ input. MayFailFrom F.can_fail (standing_of F.File.remaining (λ f. F.known f.now) F.File.remaining input) → F.can_fail path.now) }
+    ensures bytes { IfOk result (λ input.
+        bytes_left (standing_of F.File.remaining (λ f. F.known f.now) F.File.remaining input) ≡
+        F.known files.entry.now path.now) }
+    ensures failing { IfOk result (λ input.
+        MayFailFrom F.can_fail (standing_of F.File.remaining (λ f. F.known f.now) F.File.remaining
+        input) → F.can_fail path.now) }
 {
     Input::path(alloc, files, path)
 }
@@ -232,8 +243,10 @@ fn gather<S: Read + Drop, O: Opener + Drop>(
     requires some { 0 < length buffer.old }
     requires few { length buffer.old ≤ 2 ^ 20 }
     requires empty { text.old.items ≡ [] }
-    ensures whole { OnOk result (IsWhole (bytes_left (standing_of S.remaining O.known O.File.remaining input.old)) text.new.items) }
-    ensures fault { IfErr result (IsUnreadFault (MayFailFrom O.can_fail (standing_of S.remaining O.known O.File.remaining input.old))) }
+    ensures whole { OnOk result (IsWhole
+        (bytes_left (standing_of S.remaining O.known O.File.remaining input.old)) text.new.items) }
+    ensures fault { IfErr result (IsUnreadFault
+        (MayFailFrom O.can_fail (standing_of S.remaining O.known O.File.remaining input.old))) }
 {
     for _ in 0..u64::MAX {
         let count = match input.read(buffer) {
@@ -267,18 +280,6 @@ fn add_lines(alloc: Global, text: &[u8], labels: &mut IndexSet<Name>) -> Result<
     Ok(())
 }
 
-// The first line of a text that isn't empty, and what follows it.
-fn first_line(text: &[u8]) -> (&[u8], &[u8])
-    requires { 0 < length text.now }
-    ensures lines { lines_of text.now ≡ result.0.now ∷ lines_of result.1.now }
-    ensures shorter { length result.1.now < length text.now }
-{
-    match memchr(b'\n', text) {
-        Some(end) => (&text[..end], &text[end + 1..]),
-        None => (text, &text[text.len()..]),
-    }
-}
-
 // Adds the label on the line of this number, if it has one.
 fn add_line(
     alloc: Global,
@@ -288,7 +289,8 @@ fn add_line(
 ) -> Result<(), Unlabelled>
     requires { length labels.old.keys ≤ 2 ^ 16 }
     ensures sound { OnOk result (list_any is_no_label (labels_on (line.now ∷ [])) ≡ false) }
-    ensures added { OnOk result (labels.new.keys ≡ with_labels labels.old.keys (labels_on (line.now ∷ []))) }
+    ensures added { OnOk result (labels.new.keys ≡
+        with_labels labels.old.keys (labels_on (line.now ∷ []))) }
     ensures few { OnOk result (length labels.new.keys ≤ 2 ^ 16) }
     ensures fault { IfErr result (IsLineFault labels.old.keys (labels_on (line.now ∷ [])) number) }
 {
@@ -307,7 +309,8 @@ fn label_on(line: &[u8]) -> Option<&[u8]>
 
 // What a text says, if it isn't empty or a comment.
 fn said(text: &[u8]) -> Option<&[u8]>
-    ensures { option_map (λ label. label.now) result ≡ (if says_nothing text.now then None else Some text.now) }
+    ensures { option_map (λ label. label.now) result ≡
+        (if says_nothing text.now then None else Some text.now) }
 {
     match text {
         [] | [b'#', ..] => None,

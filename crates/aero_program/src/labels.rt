@@ -38,7 +38,8 @@ pub fn unused_labels<'a, S: Read + Drop, F: Opener + Drop>(
     sources: &[SourceOf<Traced<S, F>>],
     labels: &'a [Name],
 ) -> Option<Vec<&'a Name>>
-    ensures { IfSome result (λ unused. map (λ label. label.now) unused.items ≡ missing_in_each (map (λ s. unused_in s.reader) sources.now) labels.now) }
+    ensures { IfSome result (λ unused. map (λ label. label.now) unused.items ≡
+        missing_in_each (map (λ s. unused_in s.reader) sources.now) labels.now) }
 {
     let Ok(all) = all_labels(alloc, labels) else {
         return None;
@@ -64,7 +65,9 @@ fn missing_of_all<'a, S: Read + Drop, F: Opener + Drop>(
     sources: &[SourceOf<Traced<S, F>>],
     labels: Vec<&'a Name>,
 ) -> Result<Vec<&'a Name>, AllocError>
-    ensures { IfOk result (λ unused. map (λ label. label.now) unused.items ≡ missing_in_each (map (λ s. unused_in s.reader) sources.now) (map (λ label. label.now) labels.entry.items)) }
+    ensures { IfOk result (λ unused. map (λ label. label.now) unused.items ≡
+        missing_in_each (map (λ s. unused_in s.reader) sources.now)
+        (map (λ label. label.now) labels.entry.items)) }
 {
     let mut missing = labels;
     for source in sources {
@@ -89,7 +92,9 @@ fn lacking<'a, S: Read + Drop, F: Opener + Drop>(
     labels: &[&'a Name],
     traced: &Traced<S, F>,
 ) -> Result<Vec<&'a Name>, AllocError>
-    ensures { IfOk result (λ left. map (λ label. label.now) left.items ≡ filter (λ label. list_any (bytes_eq label) (unused_in traced.now)) (map (λ label. label.now) labels.now)) }
+    ensures { IfOk result (λ left. map (λ label. label.now) left.items ≡
+        filter (λ label. list_any (bytes_eq label) (unused_in traced.now))
+        (map (λ label. label.now) labels.now)) }
 {
     let mut left = Vec::new(alloc);
     for label in labels {
@@ -107,7 +112,8 @@ fn lacking<'a, S: Read + Drop, F: Opener + Drop>(
 ///
 /// `AllocError` where memory is refused.
 pub fn lines_on(alloc: Global, labels: &[&Name], on_terminal: bool) -> Result<Vec<u8>, AllocError>
-    ensures { IfOk result (λ text. text.items ≡ label_lines on_terminal (map (λ label. label.now) labels.now)) }
+    ensures { IfOk result (λ text. text.items ≡
+        label_lines on_terminal (map (λ label. label.now) labels.now)) }
 {
     let shown = labels.len().min(MOST_LINES);
     let mut text = lines_on_each(alloc, &labels[..shown], on_terminal)?;
@@ -117,7 +123,8 @@ pub fn lines_on(alloc: Global, labels: &[&Name], on_terminal: bool) -> Result<Ve
 
 // A line on each of these labels.
 fn lines_on_each(alloc: Global, labels: &[&Name], on_terminal: bool) -> Result<Vec<u8>, AllocError>
-    ensures { IfOk result (λ text. text.items ≡ flat_map (label_line on_terminal) (map (λ label. label.now) labels.now)) }
+    ensures { IfOk result (λ text. text.items ≡ flat_map (label_line on_terminal)
+        (map (λ label. label.now) labels.now)) }
 {
     let mut text = Vec::new(alloc);
     for label in labels {

@@ -48,9 +48,12 @@ impl<W: Write> Write for Lasting<W> {
 
     fn write(&mut self, buf: &[u8]) -> io::Result<usize>
         ensures bound { WritesAtMost result buf.now }
-        ensures bytes { WriteAppends (W.contents (kept_by self.old)) (W.contents (kept_by self.new)) result buf.now }
-        ensures first { first_of self.new ≡ first_fault (first_of self.old) (write_fault_of error_kind result buf.now) }
-        ensures lasting { IfSome (first_of self.old) (λ kind. IsErrAnd result (λ e. error_kind e ≡ kind)) }
+        ensures bytes { WriteAppends (W.contents (kept_by self.old)) (W.contents (kept_by self.new))
+            result buf.now }
+        ensures first { first_of self.new ≡ first_fault (first_of self.old)
+            (write_fault_of error_kind result buf.now) }
+        ensures lasting { IfSome (first_of self.old)
+            (λ kind. IsErrAnd result (λ e. error_kind e ≡ kind)) }
     {
         if let Some(kind) = self.first {
             return Err(io::Error::from(kind));
@@ -62,8 +65,10 @@ impl<W: Write> Write for Lasting<W> {
 
     fn flush(&mut self) -> io::Result<()>
         ensures bytes { Keeps (W.contents (kept_by self.old)) (W.contents (kept_by self.new)) }
-        ensures first { first_of self.new ≡ first_fault (first_of self.old) (fault_of error_kind result) }
-        ensures lasting { IfSome (first_of self.old) (λ kind. IsErrAnd result (λ e. error_kind e ≡ kind)) }
+        ensures first { first_of self.new ≡ first_fault (first_of self.old)
+            (fault_of error_kind result) }
+        ensures lasting { IfSome (first_of self.old)
+            (λ kind. IsErrAnd result (λ e. error_kind e ≡ kind)) }
         ensures told { fault_of error_kind result ≡ first_of self.new }
     {
         if let Some(kind) = self.first {

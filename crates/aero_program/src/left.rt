@@ -39,7 +39,8 @@ impl<S: Read + Drop> Left<S> {
 
     // What a run left that read it with the lines.
     pub(crate) fn closed(stdin: Option<Retrying<Closing<S>>>) -> Option<Left<S>>
-        ensures { left_closed_in S.remaining result ≡ option_map (seen_within (closing_remaining S.remaining)) stdin }
+        ensures { left_closed_in S.remaining result ≡
+            option_map (seen_within (closing_remaining S.remaining)) stdin }
     {
         match stdin {
             Some(stdin) => Some(Left::Closed(stdin)),

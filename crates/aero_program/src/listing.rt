@@ -8,7 +8,7 @@ use crate::command::MOST_FILES;
 use crate::files::Opener;
 use crate::input::Input;
 use crate::reason::Reason;
-use memchr::memchr;
+use aero_grammar::bytes::split_at_byte;
 use std::alloc::{AllocError, Global};
 use std::io::Read;
 
@@ -47,9 +47,16 @@ pub fn read_list<S: Read + Drop, O: Opener + Drop>(
     alloc: Global,
     input: &mut Input<S, O>,
 ) -> Result<Vec<u8>, Unlisted>
-    ensures whole { IfOk result (λ list. IsWhole (bytes_left (standing_of S.remaining O.known O.File.remaining input.old)) list.items) }
-    ensures fault { reason_of input.old ≡ None → IfErr result (IsFaultOf (MayFailFrom O.can_fail (standing_of S.remaining O.known O.File.remaining input.old)) (bytes_left (standing_of S.remaining O.known O.File.remaining input.old)) (reason_of input.new)) }
-    ensures stream { StandsAfter (standing_of S.remaining O.known O.File.remaining input.old) (standing_of S.remaining O.known O.File.remaining input.new) result }
+    ensures whole { IfOk result (λ list.
+        IsWhole (bytes_left (standing_of S.remaining O.known O.File.remaining input.old))
+        list.items) }
+    ensures fault { reason_of input.old ≡ None →
+        IfErr result (IsFaultOf (MayFailFrom O.can_fail
+        (standing_of S.remaining O.known O.File.remaining input.old))
+        (bytes_left (standing_of S.remaining O.known O.File.remaining input.old))
+        (reason_of input.new)) }
+    ensures stream { StandsAfter (standing_of S.remaining O.known O.File.remaining input.old)
+        (standing_of S.remaining O.known O.File.remaining input.new) result }
 {
     let mut buffer = vec![in alloc; 0u8; PIECE]?;
     let mut list = Vec::new(alloc);
@@ -68,9 +75,15 @@ fn gather<S: Read + Drop, O: Opener + Drop>(
     requires some { 0 < length buffer.old }
     requires few { length buffer.old ≤ 2 ^ 20 }
     requires empty { list.old.items ≡ [] }
-    ensures whole { OnOk result (IsWhole (bytes_left (standing_of S.remaining O.known O.File.remaining input.old)) list.new.items) }
-    ensures fault { reason_of input.old ≡ None → IfErr result (IsFaultOf (MayFailFrom O.can_fail (standing_of S.remaining O.known O.File.remaining input.old)) (bytes_left (standing_of S.remaining O.known O.File.remaining input.old)) (reason_of input.new)) }
-    ensures stream { StandsAfter (standing_of S.remaining O.known O.File.remaining input.old) (standing_of S.remaining O.known O.File.remaining input.new) result }
+    ensures whole { OnOk result (IsWhole
+        (bytes_left (standing_of S.remaining O.known O.File.remaining input.old)) list.new.items) }
+    ensures fault { reason_of input.old ≡ None →
+        IfErr result (IsFaultOf (MayFailFrom O.can_fail
+        (standing_of S.remaining O.known O.File.remaining input.old))
+        (bytes_left (standing_of S.remaining O.known O.File.remaining input.old))
+        (reason_of input.new)) }
+    ensures stream { StandsAfter (standing_of S.remaining O.known O.File.remaining input.old)
+        (standing_of S.remaining O.known O.File.remaining input.new) result }
 {
     let mut ends = 0usize;
     for _ in 0..u64::MAX {
@@ -108,8 +121,5 @@ pub fn first_name(list: &[u8]) -> (&[u8], &[u8])
     ensures names { names_in list.now ≡ result.0.now ∷ names_in result.1.now }
     ensures shorter { length result.1.now < length list.now }
 {
-    match memchr(0, list) {
-        Some(end) => (&list[..end], &list[end + 1..]),
-        None => (list, &list[list.len()..]),
-    }
+    split_at_byte(0, list)
 }

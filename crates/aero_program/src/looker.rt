@@ -118,7 +118,8 @@ fn open_same<F: Opener>(files: &F, path: &str, stamp: Stamp) -> io::Result<F::Fi
 fn open_again<F: Opener>(files: &F, path: &str) -> io::Result<Opened<F::File>>
     ensures lasting { IfErr result (λ e. error_kind e ≢ Interrupted) }
     ensures worked { IfOk result (λ _. F.can_open path.now) }
-    ensures stamped { IfOk result (λ opened. IfSome opened.stamp (λ stamp. F.holds path.now stamp (F.File.remaining opened.file))) }
+    ensures stamped { IfOk result (λ opened.
+        IfSome opened.stamp (λ stamp. F.holds path.now stamp (F.File.remaining opened.file))) }
 {
     for _ in 0..u64::MAX {
         match files.open_again(path) {

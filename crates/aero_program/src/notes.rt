@@ -42,7 +42,9 @@ pub fn notes_of<S: Read + Drop, F: Opener + Drop, G: Opener>(
     notables: &[Option<Notable>],
     are_words: bool,
 ) -> Result<Vec<Note>, AllocError>
-    ensures { IfOk result (λ notes. AreNotes G.holds (noted_of_all input_of unused_in are_words sources.now endings.now notables.now) (map note_of notes.items)) }
+    ensures { IfOk result (λ notes.
+        AreNotes G.holds (noted_of_all input_of unused_in are_words sources.now endings.now
+        notables.now) (map note_of notes.items)) }
 {
     let mut notes = Vec::new(looker.alloc);
     for place in 0..sources.len() {
@@ -104,7 +106,9 @@ fn add_notes<S: Read + Drop, F: Opener + Drop, G: Opener>(
     found: Found,
     are_words: bool,
 ) -> Result<(), AllocError>
-    ensures { OnOk result (GrowsBy G.holds (map note_of notes.old.items) (map note_of notes.new.items) (noted_of input_of unused_in are_words source.now found.too_large found.notable)) }
+    ensures { OnOk result (GrowsBy G.holds (map note_of notes.old.items)
+        (map note_of notes.new.items) (noted_of input_of unused_in are_words source.now
+        found.too_large found.notable)) }
 {
     let name = source.name.as_slice();
     let input = source.reader.input();
@@ -126,7 +130,8 @@ fn add_mark(
     name: &[u8],
     has_mark: bool,
 ) -> Result<(), AllocError>
-    ensures { OnOk result (map note_of notes.new.items ≡ map note_of notes.old.items ++ mark_notes name.now has_mark) }
+    ensures { OnOk result (map note_of notes.new.items ≡ map note_of notes.old.items ++
+        mark_notes name.now has_mark) }
 {
     if !has_mark {
         return Ok(());
@@ -146,7 +151,8 @@ fn add_reason(
     reason: Option<Reason>,
     is_word: bool,
 ) -> Result<(), AllocError>
-    ensures { OnOk result (map note_of notes.new.items ≡ map note_of notes.old.items ++ reason_notes is_word name.now reason) }
+    ensures { OnOk result (map note_of notes.new.items ≡ map note_of notes.old.items ++
+        reason_notes is_word name.now reason) }
 {
     match reason {
         None => Ok(()),
@@ -185,7 +191,8 @@ fn add_size(
     name: &[u8],
     too_large: bool,
 ) -> Result<(), AllocError>
-    ensures { OnOk result (map note_of notes.new.items ≡ map note_of notes.old.items ++ size_notes name.now too_large) }
+    ensures { OnOk result (map note_of notes.new.items ≡ map note_of notes.old.items ++
+        size_notes name.now too_large) }
 {
     if !too_large {
         return Ok(());
@@ -204,7 +211,8 @@ fn add_unchecked(
     name: &[u8],
     unchecked: bool,
 ) -> Result<(), AllocError>
-    ensures { OnOk result (map note_of notes.new.items ≡ map note_of notes.old.items ++ block_notes name.now unchecked) }
+    ensures { OnOk result (map note_of notes.new.items ≡ map note_of notes.old.items ++
+        block_notes name.now unchecked) }
 {
     if !unchecked {
         return Ok(());
@@ -224,7 +232,8 @@ fn add_fault(
     fault: Option<FaultyLine>,
     sentence: Vec<u8>,
 ) -> Result<(), AllocError>
-    ensures { OnOk result (map note_of notes.new.items ≡ map note_of notes.old.items ++ fault_notes name.now fault sentence.items) }
+    ensures { OnOk result (map note_of notes.new.items ≡ map note_of notes.old.items ++
+        fault_notes name.now fault sentence.items) }
 {
     match fault {
         None => Ok(()),
@@ -239,7 +248,8 @@ fn add_words(
     name: &[u8],
     words: &str,
 ) -> Result<(), AllocError>
-    ensures { OnOk result (map note_of notes.new.items ≡ map note_of notes.old.items ++ note_at name.now None words.now ∷ []) }
+    ensures { OnOk result (map note_of notes.new.items ≡ map note_of notes.old.items ++
+        note_at name.now None words.now ∷ []) }
 {
     let text = Vec::from_slice(alloc, words.as_bytes())?;
     add_note(notes, alloc, name, None, text)
@@ -253,7 +263,8 @@ fn add_note(
     line: Option<u32>,
     text: Vec<u8>,
 ) -> Result<(), AllocError>
-    ensures { OnOk result (map note_of notes.new.items ≡ map note_of notes.old.items ++ note_at name.now line text.items ∷ []) }
+    ensures { OnOk result (map note_of notes.new.items ≡ map note_of notes.old.items ++
+        note_at name.now line text.items ∷ []) }
 {
     let source = Vec::from_slice(alloc, name)?;
     notes.push(Note { source, line, text })?;
@@ -321,7 +332,8 @@ pub fn reason_note(
     reason: Reason,
     on_terminal: bool,
 ) -> Result<Vec<u8>, AllocError>
-    ensures { IfOk result (λ text. text.items ≡ note_text on_terminal (note_at name.now None (reason_words reason))) }
+    ensures { IfOk result (λ text. text.items ≡
+        note_text on_terminal (note_at name.now None (reason_words reason))) }
 {
     let source = Vec::from_slice(alloc, name)?;
     let text = Vec::from_slice(alloc, reason.words().as_bytes())?;
@@ -347,7 +359,8 @@ pub fn line_note(
     words: &[u8],
     on_terminal: bool,
 ) -> Result<Vec<u8>, AllocError>
-    ensures { IfOk result (λ text. text.items ≡ note_text on_terminal (note_at name.now (Some number) words.now)) }
+    ensures { IfOk result (λ text. text.items ≡
+        note_text on_terminal (note_at name.now (Some number) words.now)) }
 {
     let mut text = Vec::new(alloc);
     text.extend_from_slice(b"aerodrome: ")?;
@@ -361,7 +374,8 @@ pub fn line_note(
 
 // The line of a note.
 fn append_note(text: &mut Vec<u8>, note: &Note, on_terminal: bool) -> Result<(), AllocError>
-    ensures { OnOk result (text.new.items ≡ text.old.items ++ note_text on_terminal (note_of note.now)) }
+    ensures { OnOk result (text.new.items ≡ text.old.items ++
+        note_text on_terminal (note_of note.now)) }
 {
     text.extend_from_slice(b"aerodrome: ")?;
     append_said(text, &note.source, on_terminal)?;

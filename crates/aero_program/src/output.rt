@@ -45,7 +45,8 @@ impl<W: Write> Output<W> {
     pub(crate) fn flush(&mut self) -> io::Result<()>
         ensures bytes { Keeps (W.contents (stream_of self.old)) (W.contents (stream_of self.new)) }
         ensures faults { faults_of (writer_of self.new) ≡ faults_of (writer_of self.old) }
-        ensures unflushed { unflushed_of self.new ≡ unflushed_of self.old + (if is_err result then 1 else 0) }
+        ensures unflushed { unflushed_of self.new ≡
+            unflushed_of self.old + (if is_err result then 1 else 0) }
     {
         let result = self.writer.flush();
         if result.is_err() {

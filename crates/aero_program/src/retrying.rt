@@ -64,10 +64,13 @@ impl<R: Read> Read for Retrying<R> {
 
     fn read(&mut self, buf: &mut [u8]) -> io::Result<usize>
         ensures bound { ReadsAtMost result buf.new }
-        ensures bytes { ReadConsumes (R.remaining (tried_by self.old)) (R.remaining (tried_by self.new)) result buf.new }
+        ensures bytes { ReadConsumes (R.remaining (tried_by self.old))
+            (R.remaining (tried_by self.new)) result buf.new }
         ensures done { done_of self.new ≡ done_of self.old + (if is_err result then 0 else 1) }
-        ensures idle { idle_of self.new ≡ idle_of self.old + (if moves_nothing result buf.new then 1 else 0) }
-        ensures refused { refused_of self.new ≡ refused_of self.old + (if is_err result then 1 else 0) }
+        ensures idle { idle_of self.new ≡
+            idle_of self.old + (if moves_nothing result buf.new then 1 else 0) }
+        ensures refused { refused_of self.new ≡
+            refused_of self.old + (if is_err result then 1 else 0) }
         ensures patient { IsPatient self.old self.new }
         ensures lasting { IfErr result (λ e. error_kind e ≢ Interrupted) }
     {
@@ -94,10 +97,13 @@ impl<W: Write> Write for Retrying<W> {
 
     fn write(&mut self, buf: &[u8]) -> io::Result<usize>
         ensures bound { WritesAtMost result buf.now }
-        ensures bytes { WriteAppends (W.contents (tried_by self.old)) (W.contents (tried_by self.new)) result buf.now }
+        ensures bytes { WriteAppends (W.contents (tried_by self.old))
+            (W.contents (tried_by self.new)) result buf.now }
         ensures done { done_of self.new ≡ done_of self.old + (if is_err result then 0 else 1) }
-        ensures idle { idle_of self.new ≡ idle_of self.old + (if moves_nothing result buf.now then 1 else 0) }
-        ensures refused { refused_of self.new ≡ refused_of self.old + (if is_err result then 1 else 0) }
+        ensures idle { idle_of self.new ≡
+            idle_of self.old + (if moves_nothing result buf.now then 1 else 0) }
+        ensures refused { refused_of self.new ≡
+            refused_of self.old + (if is_err result then 1 else 0) }
         ensures patient { IsPatient self.old self.new }
         ensures lasting { IfErr result (λ e. error_kind e ≢ Interrupted) }
     {
@@ -112,8 +118,10 @@ impl<W: Write> Write for Retrying<W> {
 
     fn flush(&mut self) -> io::Result<()>
         ensures bytes { Keeps (W.contents (tried_by self.old)) (W.contents (tried_by self.new)) }
-        ensures flushed { flushed_of self.new ≡ flushed_of self.old + (if is_err result then 0 else 1) }
-        ensures refused { refused_of self.new ≡ refused_of self.old + (if is_err result then 1 else 0) }
+        ensures flushed { flushed_of self.new ≡
+            flushed_of self.old + (if is_err result then 0 else 1) }
+        ensures refused { refused_of self.new ≡
+            refused_of self.old + (if is_err result then 1 else 0) }
         ensures patient { IsPatient self.old self.new }
         ensures lasting { IfErr result (λ e. error_kind e ≢ Interrupted) }
     {

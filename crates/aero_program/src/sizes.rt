@@ -82,7 +82,8 @@ pub(crate) fn tell_work<R, Z: Opener + Sizes>(files: &Z, asked: &Sources, source
 // How many bytes the files have together that the sources are named as. `None` where one is named as no plain file, or where
 // there are 2^64 bytes or more.
 fn listed_size<R, Z: Sizes>(files: &Z, sources: &[SourceOf<R>]) -> Option<u64>
-    ensures { IfSome result (λ whole. AreSizes Z.has_size (map (λ s. s.name.items) sources.now) whole) }
+    ensures { IfSome result (λ whole. AreSizes Z.has_size (map (λ s. s.name.items) sources.now)
+        whole) }
 {
     let mut whole: u64 = 0;
     for source in sources {

@@ -70,14 +70,27 @@ pub fn sources_of<'a, S: Read + Drop, F: Opener + Drop>(
     asked: &Sources,
     except: &SharedExcept,
 ) -> Result<Gathered<S, &'a F>, Ungathered<S>>
-    ensures few { count_named asked.now ≤ 2 ^ 16 → IfOk result (λ made. vec_len made.sources ≤ 2 ^ 16) }
-    ensures names { IfOk result (λ made. AreNames (F.known files.now) asked.now (S.remaining stdin) (map (λ s. s.name.items) made.sources.items)) }
-    ensures readers { IfOk result (λ made. map (λ s. standing_of S.remaining (λ f. F.known f.now) F.File.remaining (input_of s.reader)) made.sources.items ≡ source_standings (F.known files.now) asked.now (S.remaining stdin) (map (λ s. s.name.items) made.sources.items)) }
-    ensures reasons { IfOk result (λ made. map (λ s. reason_of (input_of s.reader)) made.sources.items ≡ source_reasons asked.now (map (λ s. s.name.items) made.sources.items)) }
-    ensures sighted { IfOk result (λ made. map (sighted (sight_of S.remaining (λ f. F.known f.now) F.File.remaining)) made.sources.items ≡ source_sightings (F.known files.now) except.now.labels asked.now (S.remaining stdin) (map (λ s. s.name.items) made.sources.items)) }
-    ensures left { IfOk result (λ made. IsLeftBeside asked.now (S.remaining stdin) (option_map (seen_within S.remaining) made.stdin)) }
-    ensures unlisted { IfErr result (λ un. AreUnlisted (F.known files.now) F.can_fail asked.now (S.remaining stdin) un.why) }
-    ensures unlisted_left { IfErr result (λ un. IsLeftUnlisted asked.now (S.remaining stdin) un.why (option_map (seen_within S.remaining) un.stdin)) }
+    ensures few { count_named asked.now ≤ 2 ^ 16 →
+        IfOk result (λ made. vec_len made.sources ≤ 2 ^ 16) }
+    ensures names { IfOk result (λ made. AreNames (F.known files.now) asked.now (S.remaining stdin)
+        (map (λ s. s.name.items) made.sources.items)) }
+    ensures readers { IfOk result (λ made.
+        map (λ s. standing_of S.remaining (λ f. F.known f.now) F.File.remaining (input_of s.reader))
+        made.sources.items ≡ source_standings (F.known files.now) asked.now (S.remaining stdin)
+        (map (λ s. s.name.items) made.sources.items)) }
+    ensures reasons { IfOk result (λ made. map (λ s. reason_of (input_of s.reader))
+        made.sources.items ≡ source_reasons asked.now (map (λ s. s.name.items) made.sources.items)) }
+    ensures sighted { IfOk result (λ made.
+        map (sighted (sight_of S.remaining (λ f. F.known f.now) F.File.remaining))
+        made.sources.items ≡ source_sightings (F.known files.now) except.now.labels asked.now
+        (S.remaining stdin) (map (λ s. s.name.items) made.sources.items)) }
+    ensures left { IfOk result (λ made. IsLeftBeside asked.now (S.remaining stdin)
+        (option_map (seen_within S.remaining) made.stdin)) }
+    ensures unlisted { IfErr result
+        (λ un. AreUnlisted (F.known files.now) F.can_fail asked.now (S.remaining stdin) un.why) }
+    ensures unlisted_left { IfErr result
+        (λ un. IsLeftUnlisted asked.now (S.remaining stdin) un.why
+        (option_map (seen_within S.remaining) un.stdin)) }
 {
     match asked {
         Sources::Standard(name) => {
@@ -112,10 +125,17 @@ fn standard_alone<'a, S: Read + Drop, F: Opener + Drop>(
     name: &Option<String>,
     except: &SharedExcept,
 ) -> Result<Vec<SourceOf<Traced<S, &'a F>>>, AllocError>
-    ensures names { IfOk result (λ sources. map (λ s. s.name.items) sources.items ≡ unwrap_or (option_map string_bytes name.now) (codes "-") ∷ []) }
-    ensures readers { IfOk result (λ sources. map (λ s. standing_of S.remaining (λ f. F.known f.now) F.File.remaining (input_of s.reader)) sources.items ≡ Standard (unread (S.remaining stdin)) ∷ []) }
-    ensures reasons { IfOk result (λ sources. map (λ s. reason_of (input_of s.reader)) sources.items ≡ None ∷ []) }
-    ensures sighted { IfOk result (λ sources. map (sighted (sight_of S.remaining (λ f. F.known f.now) F.File.remaining)) sources.items ≡ sightings (λ _. made_at Stream except.now.labels (S.remaining stdin)) (unwrap_or (option_map string_bytes name.now) (codes "-") ∷ [])) }
+    ensures names { IfOk result (λ sources. map (λ s. s.name.items) sources.items ≡
+        unwrap_or (option_map string_bytes name.now) (codes "-") ∷ []) }
+    ensures readers { IfOk result (λ sources.
+        map (λ s. standing_of S.remaining (λ f. F.known f.now) F.File.remaining (input_of s.reader))
+        sources.items ≡ Standard (unread (S.remaining stdin)) ∷ []) }
+    ensures reasons { IfOk result (λ sources. map (λ s. reason_of (input_of s.reader))
+        sources.items ≡ None ∷ []) }
+    ensures sighted { IfOk result (λ sources.
+        map (sighted (sight_of S.remaining (λ f. F.known f.now) F.File.remaining)) sources.items ≡
+        sightings (λ _. made_at Stream except.now.labels (S.remaining stdin))
+        (unwrap_or (option_map string_bytes name.now) (codes "-") ∷ [])) }
     ensures one { IfOk result (λ sources. vec_len sources ≡ 1) }
 {
     let source = standard_of(alloc, stdin, name_or_dash(name), except)?;
@@ -150,9 +170,12 @@ fn standard_of<'a, S: Read + Drop, F: Opener + Drop>(
     except: &SharedExcept,
 ) -> Result<SourceOf<Traced<S, &'a F>>, AllocError>
     ensures name { IfOk result (λ s. s.name.items ≡ name.now) }
-    ensures reader { IfOk result (λ s. standing_of S.remaining (λ f. F.known f.now) F.File.remaining (input_of s.reader) ≡ Standard (unread (S.remaining stdin))) }
+    ensures reader { IfOk result (λ s. standing_of S.remaining (λ f. F.known f.now) F.File.remaining
+        (input_of s.reader) ≡ Standard (unread (S.remaining stdin))) }
     ensures reason { IfOk result (λ s. reason_of (input_of s.reader) ≡ None) }
-    ensures sighted { IfOk result (λ s. sighted (sight_of S.remaining (λ f. F.known f.now) F.File.remaining) s ≡ record { name = name.now; reader = made_at Stream except.now.labels (S.remaining stdin) }) }
+    ensures sighted { IfOk result (λ s.
+        sighted (sight_of S.remaining (λ f. F.known f.now) F.File.remaining) s ≡
+        record { name = name.now; reader = made_at Stream except.now.labels (S.remaining stdin) }) }
 {
     let watch = watch_for(alloc, except)?;
     Ok(SourceOf {
@@ -169,10 +192,16 @@ fn files_of<'a, S: Read + Drop, F: Opener + Drop>(
     words: &[String],
     except: &SharedExcept,
 ) -> Result<Vec<SourceOf<Traced<S, &'a F>>>, AllocError>
-    ensures names { IfOk result (λ sources. map (λ s. s.name.items) sources.items ≡ map string_bytes words.now) }
-    ensures readers { IfOk result (λ sources. map (λ s. standing_of S.remaining (λ f. F.known f.now) F.File.remaining (input_of s.reader)) sources.items ≡ map (unopened (F.known files.now)) (map string_bytes words.now)) }
-    ensures reasons { IfOk result (λ sources. map (λ s. reason_of (input_of s.reader)) sources.items ≡ map (λ _. None) (map string_bytes words.now)) }
-    ensures sighted { IfOk result (λ sources. map (sighted (sight_of S.remaining (λ f. F.known f.now) F.File.remaining)) sources.items ≡ sightings (file_made (F.known files.now) except.now.labels) (map string_bytes words.now)) }
+    ensures names { IfOk result (λ sources. map (λ s. s.name.items) sources.items ≡
+        map string_bytes words.now) }
+    ensures readers { IfOk result (λ sources.
+        map (λ s. standing_of S.remaining (λ f. F.known f.now) F.File.remaining (input_of s.reader))
+        sources.items ≡ map (unopened (F.known files.now)) (map string_bytes words.now)) }
+    ensures reasons { IfOk result (λ sources. map (λ s. reason_of (input_of s.reader))
+        sources.items ≡ map (λ _. None) (map string_bytes words.now)) }
+    ensures sighted { IfOk result (λ sources.
+        map (sighted (sight_of S.remaining (λ f. F.known f.now) F.File.remaining)) sources.items ≡
+        sightings (file_made (F.known files.now) except.now.labels) (map string_bytes words.now)) }
 {
     let mut sources = Vec::new(alloc);
     add_files(alloc, files, words, except, &mut sources)?;
@@ -188,10 +217,16 @@ fn add_files<'a, S: Read + Drop, F: Opener + Drop>(
     sources: &mut Vec<SourceOf<Traced<S, &'a F>>>,
 ) -> Result<(), AllocError>
     requires { sources.old.items ≡ [] }
-    ensures names { OnOk result (map (λ s. s.name.items) sources.new.items ≡ map string_bytes words.now) }
-    ensures readers { OnOk result (map (λ s. standing_of S.remaining (λ f. F.known f.now) F.File.remaining (input_of s.reader)) sources.new.items ≡ map (unopened (F.known files.now)) (map string_bytes words.now)) }
-    ensures reasons { OnOk result (map (λ s. reason_of (input_of s.reader)) sources.new.items ≡ map (λ _. None) (map string_bytes words.now)) }
-    ensures sighted { OnOk result (map (sighted (sight_of S.remaining (λ f. F.known f.now) F.File.remaining)) sources.new.items ≡ sightings (file_made (F.known files.now) except.now.labels) (map string_bytes words.now)) }
+    ensures names { OnOk result (map (λ s. s.name.items) sources.new.items ≡
+        map string_bytes words.now) }
+    ensures readers { OnOk result (map
+        (λ s. standing_of S.remaining (λ f. F.known f.now) F.File.remaining (input_of s.reader))
+        sources.new.items ≡ map (unopened (F.known files.now)) (map string_bytes words.now)) }
+    ensures reasons { OnOk result (map (λ s. reason_of (input_of s.reader)) sources.new.items ≡
+        map (λ _. None) (map string_bytes words.now)) }
+    ensures sighted { OnOk result (map
+        (sighted (sight_of S.remaining (λ f. F.known f.now) F.File.remaining)) sources.new.items ≡
+        sightings (file_made (F.known files.now) except.now.labels) (map string_bytes words.now)) }
 {
     for word in words {
         let source = file_of(alloc, files, word.as_str(), except)?;
@@ -208,9 +243,15 @@ fn file_of<'a, S: Read + Drop, F: Opener + Drop>(
     except: &SharedExcept,
 ) -> Result<SourceOf<Traced<S, &'a F>>, AllocError>
     ensures name { IfOk result (λ s. s.name.items ≡ path.now) }
-    ensures reader { IfOk result (λ s. standing_of S.remaining (λ f. F.known f.now) F.File.remaining (input_of s.reader) ≡ unopened (F.known files.now) path.now) }
+    ensures reader { IfOk result (λ s. standing_of S.remaining (λ f. F.known f.now) F.File.remaining
+        (input_of s.reader) ≡ unopened (F.known files.now) path.now) }
     ensures reason { IfOk result (λ s. reason_of (input_of s.reader) ≡ None) }
-    ensures sighted { IfOk result (λ s. sighted (sight_of S.remaining (λ f. F.known f.now) F.File.remaining) s ≡ record { name = path.now; reader = file_made (F.known files.now) except.now.labels path.now }) }
+    ensures sighted { IfOk result (λ s.
+        sighted (sight_of S.remaining (λ f. F.known f.now) F.File.remaining) s ≡
+        record {
+          name = path.now;
+          reader = file_made (F.known files.now) except.now.labels path.now;
+        }) }
 {
     let watch = watch_for(alloc, except)?;
     Ok(SourceOf {
@@ -229,13 +270,27 @@ fn listed_at<'a, S: Read + Drop, F: Opener + Drop>(
     except: &SharedExcept,
 ) -> Result<Gathered<S, &'a F>, Ungathered<S>>
     ensures few { IfOk result (λ made. vec_len made.sources ≤ 2 ^ 16) }
-    ensures names { IfOk result (λ made. (list : List ℕ) × IsWhole (list_given (F.known files.now) path.now (S.remaining stdin)) list × (map (λ s. s.name.items) made.sources.items ≡ names_in list)) }
-    ensures readers { IfOk result (λ made. map (λ s. standing_of S.remaining (λ f. F.known f.now) F.File.remaining (input_of s.reader)) made.sources.items ≡ map (listed_standing (F.known files.now)) (map (λ s. s.name.items) made.sources.items)) }
-    ensures reasons { IfOk result (λ made. map (λ s. reason_of (input_of s.reader)) made.sources.items ≡ map listed_reason (map (λ s. s.name.items) made.sources.items)) }
-    ensures sighted { IfOk result (λ made. map (sighted (sight_of S.remaining (λ f. F.known f.now) F.File.remaining)) made.sources.items ≡ sightings (listed_made (F.known files.now) except.now.labels) (map (λ s. s.name.items) made.sources.items)) }
-    ensures left { IfOk result (λ made. IsLeftByList path.now (S.remaining stdin) (option_map (seen_within S.remaining) made.stdin)) }
-    ensures unlisted { IfErr result (λ un. IsListFault (MayFailListed F.can_fail path.now) (list_given (F.known files.now) path.now (S.remaining stdin)) un.why) }
-    ensures unlisted_left { IfErr result (λ un. IsLeftByFault path.now (S.remaining stdin) un.why (option_map (seen_within S.remaining) un.stdin)) }
+    ensures names { IfOk result (λ made. (list : List ℕ) ×
+        IsWhole (list_given (F.known files.now) path.now (S.remaining stdin)) list ×
+        (map (λ s. s.name.items) made.sources.items ≡ names_in list)) }
+    ensures readers { IfOk result (λ made.
+        map (λ s. standing_of S.remaining (λ f. F.known f.now) F.File.remaining (input_of s.reader))
+        made.sources.items ≡ map (listed_standing (F.known files.now))
+        (map (λ s. s.name.items) made.sources.items)) }
+    ensures reasons { IfOk result (λ made. map (λ s. reason_of (input_of s.reader))
+        made.sources.items ≡ map listed_reason (map (λ s. s.name.items) made.sources.items)) }
+    ensures sighted { IfOk result (λ made.
+        map (sighted (sight_of S.remaining (λ f. F.known f.now) F.File.remaining))
+        made.sources.items ≡ sightings (listed_made (F.known files.now) except.now.labels)
+        (map (λ s. s.name.items) made.sources.items)) }
+    ensures left { IfOk result (λ made. IsLeftByList path.now (S.remaining stdin)
+        (option_map (seen_within S.remaining) made.stdin)) }
+    ensures unlisted { IfErr result
+        (λ un. IsListFault (MayFailListed F.can_fail path.now)
+        (list_given (F.known files.now) path.now (S.remaining stdin)) un.why) }
+    ensures unlisted_left { IfErr result
+        (λ un. IsLeftByFault path.now (S.remaining stdin) un.why
+        (option_map (seen_within S.remaining) un.stdin)) }
 {
     if path == "-" {
         listed_in_stream(alloc, files, stdin, except)
@@ -252,13 +307,22 @@ fn listed_in_stream<'a, S: Read + Drop, F: Opener + Drop>(
     except: &SharedExcept,
 ) -> Result<Gathered<S, &'a F>, Ungathered<S>>
     ensures few { IfOk result (λ made. vec_len made.sources ≤ 2 ^ 16) }
-    ensures names { IfOk result (λ made. (list : List ℕ) × IsWhole (S.remaining stdin) list × (map (λ s. s.name.items) made.sources.items ≡ names_in list)) }
-    ensures readers { IfOk result (λ made. map (λ s. standing_of S.remaining (λ f. F.known f.now) F.File.remaining (input_of s.reader)) made.sources.items ≡ map (listed_standing (F.known files.now)) (map (λ s. s.name.items) made.sources.items)) }
-    ensures reasons { IfOk result (λ made. map (λ s. reason_of (input_of s.reader)) made.sources.items ≡ map listed_reason (map (λ s. s.name.items) made.sources.items)) }
-    ensures sighted { IfOk result (λ made. map (sighted (sight_of S.remaining (λ f. F.known f.now) F.File.remaining)) made.sources.items ≡ sightings (listed_made (F.known files.now) except.now.labels) (map (λ s. s.name.items) made.sources.items)) }
+    ensures names { IfOk result (λ made. (list : List ℕ) × IsWhole (S.remaining stdin) list ×
+        (map (λ s. s.name.items) made.sources.items ≡ names_in list)) }
+    ensures readers { IfOk result (λ made.
+        map (λ s. standing_of S.remaining (λ f. F.known f.now) F.File.remaining (input_of s.reader))
+        made.sources.items ≡ map (listed_standing (F.known files.now))
+        (map (λ s. s.name.items) made.sources.items)) }
+    ensures reasons { IfOk result (λ made. map (λ s. reason_of (input_of s.reader))
+        made.sources.items ≡ map listed_reason (map (λ s. s.name.items) made.sources.items)) }
+    ensures sighted { IfOk result (λ made.
+        map (sighted (sight_of S.remaining (λ f. F.known f.now) F.File.remaining))
+        made.sources.items ≡ sightings (listed_made (F.known files.now) except.now.labels)
+        (map (λ s. s.name.items) made.sources.items)) }
     ensures left { IfOk result (λ made. IsReadOut (option_map (seen_within S.remaining) made.stdin)) }
     ensures unlisted { IfErr result (λ un. IsListFault ⊤ (S.remaining stdin) un.why) }
-    ensures unlisted_left { IfErr result (λ un. IsCutFor un.why (option_map (seen_within S.remaining) un.stdin)) }
+    ensures unlisted_left { IfErr result
+        (λ un. IsCutFor un.why (option_map (seen_within S.remaining) un.stdin)) }
 {
     let mut input: Input<S, &'a F> = Input::standard(stdin);
     let list = read_list(alloc, &mut input);
@@ -278,13 +342,25 @@ fn listed_in_file<'a, S: Read + Drop, F: Opener + Drop>(
     except: &SharedExcept,
 ) -> Result<Gathered<S, &'a F>, Ungathered<S>>
     ensures few { IfOk result (λ made. vec_len made.sources ≤ 2 ^ 16) }
-    ensures names { IfOk result (λ made. (list : List ℕ) × IsWhole (F.known files.now path.now) list × (map (λ s. s.name.items) made.sources.items ≡ names_in list)) }
-    ensures readers { IfOk result (λ made. map (λ s. standing_of S.remaining (λ f. F.known f.now) F.File.remaining (input_of s.reader)) made.sources.items ≡ map (listed_standing (F.known files.now)) (map (λ s. s.name.items) made.sources.items)) }
-    ensures reasons { IfOk result (λ made. map (λ s. reason_of (input_of s.reader)) made.sources.items ≡ map listed_reason (map (λ s. s.name.items) made.sources.items)) }
-    ensures sighted { IfOk result (λ made. map (sighted (sight_of S.remaining (λ f. F.known f.now) F.File.remaining)) made.sources.items ≡ sightings (listed_made (F.known files.now) except.now.labels) (map (λ s. s.name.items) made.sources.items)) }
-    ensures left { IfOk result (λ made. IsUntouched (S.remaining stdin) (option_map (seen_within S.remaining) made.stdin)) }
-    ensures unlisted { IfErr result (λ un. IsListFault (F.can_fail path.now) (F.known files.now path.now) un.why) }
-    ensures unlisted_left { IfErr result (λ un. IsUntouchedFor un.why (S.remaining stdin) (option_map (seen_within S.remaining) un.stdin)) }
+    ensures names { IfOk result (λ made. (list : List ℕ) × IsWhole (F.known files.now path.now)
+        list × (map (λ s. s.name.items) made.sources.items ≡ names_in list)) }
+    ensures readers { IfOk result (λ made.
+        map (λ s. standing_of S.remaining (λ f. F.known f.now) F.File.remaining (input_of s.reader))
+        made.sources.items ≡ map (listed_standing (F.known files.now))
+        (map (λ s. s.name.items) made.sources.items)) }
+    ensures reasons { IfOk result (λ made. map (λ s. reason_of (input_of s.reader))
+        made.sources.items ≡ map listed_reason (map (λ s. s.name.items) made.sources.items)) }
+    ensures sighted { IfOk result (λ made.
+        map (sighted (sight_of S.remaining (λ f. F.known f.now) F.File.remaining))
+        made.sources.items ≡ sightings (listed_made (F.known files.now) except.now.labels)
+        (map (λ s. s.name.items) made.sources.items)) }
+    ensures left { IfOk result (λ made. IsUntouched (S.remaining stdin)
+        (option_map (seen_within S.remaining) made.stdin)) }
+    ensures unlisted { IfErr result
+        (λ un. IsListFault (F.can_fail path.now) (F.known files.now path.now) un.why) }
+    ensures unlisted_left { IfErr result
+        (λ un. IsUntouchedFor un.why (S.remaining stdin)
+        (option_map (seen_within S.remaining) un.stdin)) }
 {
     let mut input: Input<S, &'a F> = Input::path(alloc, files, path)?;
     let list = read_list(alloc, &mut input);
@@ -304,12 +380,22 @@ fn listed_by<'a, S: Read + Drop, F: Opener + Drop>(
     except: &SharedExcept,
 ) -> Result<Gathered<S, &'a F>, Ungathered<S>>
     ensures few { IfOk result (λ made. vec_len made.sources ≤ 2 ^ 16) }
-    ensures names { IfOk result (λ made. map (λ s. s.name.items) made.sources.items ≡ names_in list.now) }
-    ensures readers { IfOk result (λ made. map (λ s. standing_of S.remaining (λ f. F.known f.now) F.File.remaining (input_of s.reader)) made.sources.items ≡ map (listed_standing (F.known files.now)) (map (λ s. s.name.items) made.sources.items)) }
-    ensures reasons { IfOk result (λ made. map (λ s. reason_of (input_of s.reader)) made.sources.items ≡ map listed_reason (map (λ s. s.name.items) made.sources.items)) }
-    ensures sighted { IfOk result (λ made. map (sighted (sight_of S.remaining (λ f. F.known f.now) F.File.remaining)) made.sources.items ≡ sightings (listed_made (F.known files.now) except.now.labels) (map (λ s. s.name.items) made.sources.items)) }
+    ensures names { IfOk result (λ made. map (λ s. s.name.items) made.sources.items ≡
+        names_in list.now) }
+    ensures readers { IfOk result (λ made.
+        map (λ s. standing_of S.remaining (λ f. F.known f.now) F.File.remaining (input_of s.reader))
+        made.sources.items ≡ map (listed_standing (F.known files.now))
+        (map (λ s. s.name.items) made.sources.items)) }
+    ensures reasons { IfOk result (λ made. map (λ s. reason_of (input_of s.reader))
+        made.sources.items ≡ map listed_reason (map (λ s. s.name.items) made.sources.items)) }
+    ensures sighted { IfOk result (λ made.
+        map (sighted (sight_of S.remaining (λ f. F.known f.now) F.File.remaining))
+        made.sources.items ≡ sightings (listed_made (F.known files.now) except.now.labels)
+        (map (λ s. s.name.items) made.sources.items)) }
     ensures left { IfOk result (λ made. made.stdin ≡ stdin) }
-    ensures unlisted { IfErr result (λ un. (un.why ≡ Memory) ⊎ ((un.why ≡ TooMany) × (2 ^ 16 < length (names_in list.now)) × (un.stdin ≡ stdin))) }
+    ensures unlisted { IfErr result
+        (λ un. (un.why ≡ Memory) ⊎ ((un.why ≡ TooMany) × (2 ^ 16 < length (names_in list.now)) ×
+        (un.stdin ≡ stdin))) }
 {
     let sources = listed_in(alloc, files, list, except)?;
     if sources.len() > MOST_FILES {
@@ -328,10 +414,18 @@ fn listed_in<'a, S: Read + Drop, F: Opener + Drop>(
     list: &[u8],
     except: &SharedExcept,
 ) -> Result<Vec<SourceOf<Traced<S, &'a F>>>, AllocError>
-    ensures names { IfOk result (λ sources. map (λ s. s.name.items) sources.items ≡ names_in list.now) }
-    ensures readers { IfOk result (λ sources. map (λ s. standing_of S.remaining (λ f. F.known f.now) F.File.remaining (input_of s.reader)) sources.items ≡ map (listed_standing (F.known files.now)) (map (λ s. s.name.items) sources.items)) }
-    ensures reasons { IfOk result (λ sources. map (λ s. reason_of (input_of s.reader)) sources.items ≡ map listed_reason (map (λ s. s.name.items) sources.items)) }
-    ensures sighted { IfOk result (λ sources. map (sighted (sight_of S.remaining (λ f. F.known f.now) F.File.remaining)) sources.items ≡ sightings (listed_made (F.known files.now) except.now.labels) (map (λ s. s.name.items) sources.items)) }
+    ensures names { IfOk result (λ sources. map (λ s. s.name.items) sources.items ≡
+        names_in list.now) }
+    ensures readers { IfOk result (λ sources.
+        map (λ s. standing_of S.remaining (λ f. F.known f.now) F.File.remaining (input_of s.reader))
+        sources.items ≡ map (listed_standing (F.known files.now))
+        (map (λ s. s.name.items) sources.items)) }
+    ensures reasons { IfOk result (λ sources. map (λ s. reason_of (input_of s.reader))
+        sources.items ≡ map listed_reason (map (λ s. s.name.items) sources.items)) }
+    ensures sighted { IfOk result (λ sources.
+        map (sighted (sight_of S.remaining (λ f. F.known f.now) F.File.remaining)) sources.items ≡
+        sightings (listed_made (F.known files.now) except.now.labels)
+        (map (λ s. s.name.items) sources.items)) }
 {
     let mut sources = Vec::new(alloc);
     add_listed(alloc, files, list, except, &mut sources)?;
@@ -348,9 +442,16 @@ fn add_listed<'a, S: Read + Drop, F: Opener + Drop>(
 ) -> Result<(), AllocError>
     requires { sources.old.items ≡ [] }
     ensures names { OnOk result (map (λ s. s.name.items) sources.new.items ≡ names_in list.now) }
-    ensures readers { OnOk result (map (λ s. standing_of S.remaining (λ f. F.known f.now) F.File.remaining (input_of s.reader)) sources.new.items ≡ map (listed_standing (F.known files.now)) (map (λ s. s.name.items) sources.new.items)) }
-    ensures reasons { OnOk result (map (λ s. reason_of (input_of s.reader)) sources.new.items ≡ map listed_reason (map (λ s. s.name.items) sources.new.items)) }
-    ensures sighted { OnOk result (map (sighted (sight_of S.remaining (λ f. F.known f.now) F.File.remaining)) sources.new.items ≡ sightings (listed_made (F.known files.now) except.now.labels) (map (λ s. s.name.items) sources.new.items)) }
+    ensures readers { OnOk result (map
+        (λ s. standing_of S.remaining (λ f. F.known f.now) F.File.remaining (input_of s.reader))
+        sources.new.items ≡ map (listed_standing (F.known files.now))
+        (map (λ s. s.name.items) sources.new.items)) }
+    ensures reasons { OnOk result (map (λ s. reason_of (input_of s.reader)) sources.new.items ≡
+        map listed_reason (map (λ s. s.name.items) sources.new.items)) }
+    ensures sighted { OnOk result (map
+        (sighted (sight_of S.remaining (λ f. F.known f.now) F.File.remaining)) sources.new.items ≡
+        sightings (listed_made (F.known files.now) except.now.labels)
+        (map (λ s. s.name.items) sources.new.items)) }
 {
     let mut rest = list;
     while !rest.is_empty() {
@@ -370,9 +471,16 @@ fn named_of<'a, S: Read + Drop, F: Opener + Drop>(
     except: &SharedExcept,
 ) -> Result<SourceOf<Traced<S, &'a F>>, AllocError>
     ensures name { IfOk result (λ s. s.name.items ≡ name.now) }
-    ensures reader { IfOk result (λ s. standing_of S.remaining (λ f. F.known f.now) F.File.remaining (input_of s.reader) ≡ listed_standing (F.known files.now) name.now) }
+    ensures reader { IfOk result (λ s. standing_of S.remaining (λ f. F.known f.now) F.File.remaining
+        (input_of s.reader) ≡ listed_standing (F.known files.now) name.now) }
     ensures reason { IfOk result (λ s. reason_of (input_of s.reader) ≡ listed_reason name.now) }
-    ensures sighted { IfOk result (λ s. sighted (sight_of S.remaining (λ f. F.known f.now) F.File.remaining) s ≡ record { name = name.now; reader = listed_made (F.known files.now) except.now.labels name.now }) }
+    ensures sighted { IfOk result (λ s.
+        sighted (sight_of S.remaining (λ f. F.known f.now) F.File.remaining) s ≡
+        record {
+          name = name.now;
+          reader = listed_made (F.known files.now) except.now.labels
+              name.now;
+        }) }
 {
     let Some(path) = path_of(name) else {
         return unnamed_of(alloc, name, except);
@@ -382,7 +490,8 @@ fn named_of<'a, S: Read + Drop, F: Opener + Drop>(
 
 // The path that a name is, where it is UTF-8.
 fn path_of(name: &[u8]) -> Option<&str>
-    ensures { option_map (λ path. path.now) result ≡ (if is_utf8 name.now then Some name.now else None) }
+    ensures { option_map (λ path. path.now) result ≡
+        (if is_utf8 name.now then Some name.now else None) }
 {
     match str::from_utf8(name) {
         Ok(path) => Some(path),
@@ -397,9 +506,12 @@ fn unnamed_of<'a, S: Read + Drop, F: Opener + Drop>(
     except: &SharedExcept,
 ) -> Result<SourceOf<Traced<S, &'a F>>, AllocError>
     ensures name { IfOk result (λ s. s.name.items ≡ name.now) }
-    ensures reader { IfOk result (λ s. standing_of S.remaining (λ f. F.known f.now) F.File.remaining (input_of s.reader) ≡ Failed None) }
+    ensures reader { IfOk result (λ s. standing_of S.remaining (λ f. F.known f.now) F.File.remaining
+        (input_of s.reader) ≡ Failed None) }
     ensures reason { IfOk result (λ s. reason_of (input_of s.reader) ≡ Some NotUtf8) }
-    ensures sighted { IfOk result (λ s. sighted (sight_of S.remaining (λ f. F.known f.now) F.File.remaining) s ≡ record { name = name.now; reader = made_at Nowhere except.now.labels None }) }
+    ensures sighted { IfOk result (λ s.
+        sighted (sight_of S.remaining (λ f. F.known f.now) F.File.remaining) s ≡
+        record { name = name.now; reader = made_at Nowhere except.now.labels None }) }
 {
     let watch = watch_for(alloc, except)?;
     Ok(SourceOf {

@@ -46,7 +46,8 @@ pub fn status_after(
     flushed: &io::Result<()>,
     fail_open: bool,
 ) -> Result<u8, Failure>
-    ensures { result ≡ end_of_run fail_open outcome.now.cause outcome.now.counts (fault_of error_kind flushed.now) }
+    ensures { result ≡ end_of_run fail_open outcome.now.cause outcome.now.counts
+        (fault_of error_kind flushed.now) }
 {
     end_after(outcome.cause, &outcome.counts, flushed, fail_open)
 }

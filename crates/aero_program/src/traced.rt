@@ -35,7 +35,8 @@ impl<S: Read + Drop, O: Opener + Drop> Traced<S, O> {
     // An input that was just made.
     pub(crate) fn new(input: Input<S, O>) -> Traced<S, O>
         requires start { start_of input ≡ [] }
-        requires reason { reason_of input ≡ reason_at (place_of (standing_of S.remaining O.known O.File.remaining input)) }
+        requires reason { reason_of input ≡
+            reason_at (place_of (standing_of S.remaining O.known O.File.remaining input)) }
         requires opened { opened_of input ≡ None }
         requires unread { IsUnread (standing_of S.remaining O.known O.File.remaining input) }
         requires seen { HasWatched input.watch [] }
@@ -61,7 +62,8 @@ impl<S: Read + Drop, O: Opener + Drop> Traced<S, O> {
     ///
     /// `AllocError` where memory is refused now, or was to its watch.
     pub fn lacks(&self, label: &[u8]) -> Result<bool, AllocError>
-        ensures { IfOk result (λ lacks. lacks ≡ list_any (bytes_eq label.now) (unbegun_in self.now.first.value self.now.given.bytes)) }
+        ensures { IfOk result (λ lacks. lacks ≡
+            list_any (bytes_eq label.now) (unbegun_in self.now.first.value self.now.given.bytes)) }
     {
         self.input.lacks(label)
     }
@@ -117,7 +119,8 @@ fn count_failure(answer: &io::Result<usize>, faults: &mut GhostCount)
 
 // Counts a read that found the end.
 fn count_end(answer: &io::Result<usize>, buf: &[u8], ends: &mut GhostCount)
-    ensures { ends.new.number ≡ ends.old.number + (if moves_nothing answer.now buf.now then 1 else 0) }
+    ensures { ends.new.number ≡ ends.old.number +
+        (if moves_nothing answer.now buf.now then 1 else 0) }
 {
     match answer {
         Ok(count) => {

@@ -36,7 +36,8 @@ impl Failings {
     // One call more that failed so.
     #[inline(always)]
     fn note(&mut self, error: &io::Error)
-        ensures interrupted { error_kind error.now ≡ Interrupted → OneInterrupted self.old self.new }
+        ensures interrupted { error_kind error.now ≡ Interrupted →
+            OneInterrupted self.old self.new }
         ensures failed { error_kind error.now ≢ Interrupted → OneFailed self.old self.new }
     {
         if error.kind() == ErrorKind::Interrupted {
@@ -95,13 +96,17 @@ impl<R: Read> Read for Watched<R> {
     #[inline(always)]
     fn read(&mut self, buf: &mut [u8]) -> io::Result<usize>
         ensures bound { ReadsAtMost result buf.new }
-        ensures bytes { ReadConsumes (R.remaining (stream_of self.old)) (R.remaining (stream_of self.new)) result buf.new }
+        ensures bytes { ReadConsumes (R.remaining (stream_of self.old))
+            (R.remaining (stream_of self.new)) result buf.new }
         ensures done { done_by self.new ≡ done_by self.old + (if is_err result then 0 else 1) }
-        ensures idle { idle_by self.new ≡ idle_by self.old + (if moves_nothing result buf.new then 1 else 0) }
+        ensures idle { idle_by self.new ≡
+            idle_by self.old + (if moves_nothing result buf.new then 1 else 0) }
         ensures flushed { flushed_by self.new ≡ flushed_by self.old }
         ensures unfailed { OnOk result (failings_of self.new ≡ failings_of self.old) }
-        ensures interrupted { IfErr result (λ e. error_kind e ≡ Interrupted → OneInterrupted (failings_of self.old) (failings_of self.new)) }
-        ensures failed { IfErr result (λ e. error_kind e ≢ Interrupted → OneFailed (failings_of self.old) (failings_of self.new)) }
+        ensures interrupted { IfErr result (λ e. error_kind e ≡ Interrupted →
+            OneInterrupted (failings_of self.old) (failings_of self.new)) }
+        ensures failed { IfErr result (λ e. error_kind e ≢ Interrupted →
+            OneFailed (failings_of self.old) (failings_of self.new)) }
     {
         let result = self.inner.read(buf);
         match &result {
@@ -131,13 +136,17 @@ impl<W: Write> Write for Watched<W> {
     #[inline(always)]
     fn write(&mut self, buf: &[u8]) -> io::Result<usize>
         ensures bound { WritesAtMost result buf.now }
-        ensures bytes { WriteAppends (W.contents (stream_of self.old)) (W.contents (stream_of self.new)) result buf.now }
+        ensures bytes { WriteAppends (W.contents (stream_of self.old))
+            (W.contents (stream_of self.new)) result buf.now }
         ensures done { done_by self.new ≡ done_by self.old + (if is_err result then 0 else 1) }
-        ensures idle { idle_by self.new ≡ idle_by self.old + (if moves_nothing result buf.now then 1 else 0) }
+        ensures idle { idle_by self.new ≡
+            idle_by self.old + (if moves_nothing result buf.now then 1 else 0) }
         ensures flushed { flushed_by self.new ≡ flushed_by self.old }
         ensures unfailed { OnOk result (failings_of self.new ≡ failings_of self.old) }
-        ensures interrupted { IfErr result (λ e. error_kind e ≡ Interrupted → OneInterrupted (failings_of self.old) (failings_of self.new)) }
-        ensures failed { IfErr result (λ e. error_kind e ≢ Interrupted → OneFailed (failings_of self.old) (failings_of self.new)) }
+        ensures interrupted { IfErr result (λ e. error_kind e ≡ Interrupted →
+            OneInterrupted (failings_of self.old) (failings_of self.new)) }
+        ensures failed { IfErr result (λ e. error_kind e ≢ Interrupted →
+            OneFailed (failings_of self.old) (failings_of self.new)) }
     {
         let result = self.inner.write(buf);
         match &result {
@@ -157,10 +166,13 @@ impl<W: Write> Write for Watched<W> {
         ensures bytes { Keeps (W.contents (stream_of self.old)) (W.contents (stream_of self.new)) }
         ensures done { done_by self.new ≡ done_by self.old }
         ensures idle { idle_by self.new ≡ idle_by self.old }
-        ensures flushed { flushed_by self.new ≡ flushed_by self.old + (if is_err result then 0 else 1) }
+        ensures flushed { flushed_by self.new ≡
+            flushed_by self.old + (if is_err result then 0 else 1) }
         ensures unfailed { OnOk result (failings_of self.new ≡ failings_of self.old) }
-        ensures interrupted { IfErr result (λ e. error_kind e ≡ Interrupted → OneInterrupted (failings_of self.old) (failings_of self.new)) }
-        ensures failed { IfErr result (λ e. error_kind e ≢ Interrupted → OneFailed (failings_of self.old) (failings_of self.new)) }
+        ensures interrupted { IfErr result (λ e. error_kind e ≡ Interrupted →
+            OneInterrupted (failings_of self.old) (failings_of self.new)) }
+        ensures failed { IfErr result (λ e. error_kind e ≢ Interrupted →
+            OneFailed (failings_of self.old) (failings_of self.new)) }
     {
         let result = self.inner.flush();
         match &result {

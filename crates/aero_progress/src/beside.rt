@@ -32,7 +32,8 @@ impl<W: Write, L: Write, R: Wait> Write for Beside<'_, W, L, R> {
 
     fn write(&mut self, buf: &[u8]) -> io::Result<usize>
         ensures bound { WritesAtMost result buf.now }
-        ensures bytes { WriteAppends (W.contents self.old.inner) (W.contents self.new.inner) result buf.now }
+        ensures bytes { WriteAppends (W.contents self.old.inner) (W.contents self.new.inner) result
+            buf.now }
     {
         let Some(line) = self.line else {
             return self.inner.write(buf);

@@ -80,7 +80,9 @@ impl Course {
         alloc: Global,
         line: &mut ProgressLine<W>,
     ) -> io::Result<()>
-        ensures { line.old.is_over ≡ false → OnOk result (TellsOf self.now.work line.old.surface (W.contents line.old.writer) (W.contents line.new.writer)) }
+        ensures { line.old.is_over ≡ false →
+            OnOk result (TellsOf self.now.work line.old.surface (W.contents line.old.writer)
+            (W.contents line.new.writer)) }
     {
         match self.work() {
             Some(work) => self.show_of(work, clock, alloc, line),
@@ -96,7 +98,9 @@ impl Course {
         alloc: Global,
         line: &mut ProgressLine<W>,
     ) -> io::Result<()>
-        ensures { line.old.is_over ≡ false → OnOk result (Tells line.old.surface work (W.contents line.old.writer) (W.contents line.new.writer)) }
+        ensures { line.old.is_over ≡ false →
+            OnOk result (Tells line.old.surface work (W.contents line.old.writer)
+            (W.contents line.new.writer)) }
     {
         let reached = self.reached(clock, work)?;
         let text = text_of(alloc, line.surface(), work, reached)?;

@@ -19,7 +19,8 @@ pub struct Gain {
 pub fn gain_of(outcome: &io::Result<usize>, asked: usize) -> Gain
     ensures bytes { result.bytes ≡ bytes_in outcome.now }
     ensures ends { IfOk outcome.now (λ count. result.ends ≡ finds_end count asked) }
-    ensures fails { IfErr outcome.now (λ error. result.ends ≡ false ↔ error_kind error ≡ Interrupted) }
+    ensures fails { IfErr outcome.now (λ error. result.ends ≡ false ↔ error_kind error ≡
+        Interrupted) }
 {
     match outcome {
         Ok(count) => Gain {

@@ -132,7 +132,8 @@ impl<W: Write> ProgressLine<W> {
     ///
     /// Those of the writer. A front of the text may stand there.
     pub fn show(&mut self, text: &[u8]) -> io::Result<()>
-        ensures shown { self.old.is_over ≡ false → OnOk result (Appends (W.contents self.old.writer) (W.contents self.new.writer) text.now) }
+        ensures shown { self.old.is_over ≡ false →
+            OnOk result (Appends (W.contents self.old.writer) (W.contents self.new.writer) text.now) }
         ensures stands { self.old.is_over ≡ false → self.new.stands ≡ true }
         ensures over { self.old.is_over ≡ true → self.new ≡ self.old }
         ensures same { self.new.is_over ≡ self.old.is_over }
@@ -151,7 +152,9 @@ impl<W: Write> ProgressLine<W> {
     ///
     /// Those of the writer.
     pub fn clear(&mut self) -> io::Result<()>
-        ensures cleared { self.old.stands ≡ true → OnOk result (Appends (W.contents self.old.writer) (W.contents self.new.writer) (blank_text self.old.surface)) }
+        ensures cleared { self.old.stands ≡ true →
+            OnOk result (Appends (W.contents self.old.writer) (W.contents self.new.writer)
+            (blank_text self.old.surface)) }
         ensures stands { self.new.stands ≡ false }
         ensures untouched { self.old.stands ≡ false → self.new ≡ self.old }
         ensures same { self.new.is_over ≡ self.old.is_over }
@@ -170,7 +173,9 @@ impl<W: Write> ProgressLine<W> {
     ///
     /// Those of the writer.
     pub fn end(&mut self) -> io::Result<()>
-        ensures cleared { self.old.stands ≡ true → OnOk result (Appends (W.contents self.old.writer) (W.contents self.new.writer) (blank_text self.old.surface)) }
+        ensures cleared { self.old.stands ≡ true →
+            OnOk result (Appends (W.contents self.old.writer) (W.contents self.new.writer)
+            (blank_text self.old.surface)) }
         ensures stands { self.new.stands ≡ false }
         ensures is_over { self.new.is_over ≡ true }
         ensures surface { self.new.surface ≡ self.old.surface }

@@ -121,8 +121,8 @@ ending_depth false = omega arith
 option_depth : (o : Options) → members_depth (members_of (option_members o)) ≤ 3
 option_depth o = omega (
   arith,
-  labels_depth o.labels.labels,
-  both_depth 3 (stop_members o.stop) (ending_members o.end ++ (unused_members o.unused ++ notes_members o.notes)) (stop_depth o.stop)
+  labels_depth o.terms.rules.labels.labels,
+  both_depth 3 (stop_members o.terms.stop) (ending_members o.end ++ (unused_members o.unused ++ notes_members o.notes)) (stop_depth o.terms.stop)
       (both_depth 3 (ending_members o.end) (unused_members o.unused ++ notes_members o.notes) (ending_depth o.end)
       (both_depth 3 (unused_members o.unused) (notes_members o.notes) (unused_depth o.unused) (notes_depth o.notes))),
 )

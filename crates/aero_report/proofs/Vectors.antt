@@ -14,7 +14,9 @@ use Rattle.aero_model.specs.declared.verdict.Finding.TheVariants.{Judged, Ordere
 use Rattle.aero_report.specs.declared.form.Form.TheVariants.{Json}
 use Rattle.json.proofs.OnLiterals.{json_on_literals}
 use Rattle.std.specs.Str.{chars, is_utf8}
-use Rattle.aero_report.specs.Texts.{cycle_line, label_line, step_line, source_line, summary_line, no_counts, counts_of, report}
+use Rattle.aero_report.specs.Texts.{cycle_line, label_line, step_line, source_line, summary_line, report}
+use Rattle.aero_model.specs.Terms.{asking}
+use Rattle.aero_model.specs.Verdicts.{no_counts, counts_of}
 use Rattle.aero_model.specs.declared.limits.Limits.{Limits}
 use Rattle.aero_model.specs.declared.verdict.Extent.TheVariants.{Alone, Block}
 use Rattle.aero_model.specs.Exempt.{all_but}
@@ -115,7 +117,7 @@ few = record {
 }
 
 abbrev options : Options
-options = record { limits = few; labels = all_but (codes "f" ∷ codes "g" ∷ []); order = false; explain = true; stop = false; end = false; unused = []; notes = [] }
+options = record { terms = asking few (all_but (codes "f" ∷ codes "g" ∷ [])) false true; end = false; unused = []; notes = [] }
 
 summary_object : summary_line_in Json options (counts_of (Broken 20 ∷ [])) ≡ codes "{\"traces\":1,\"serializable\":0,\"open\":0,\"violations\":0,\"faults\":1,\"version\":\"0.1.0\",\"order\":false,\"explain\":true,\"limits\":{\"bytes\":20,\"lines\":4,\"threads\":3,\"names\":2},\"only\":[\"f\",\"g\"]}" ++ 10 ∷ []
 unfolding digits json_on_literals chars is_utf8

@@ -179,11 +179,11 @@ ending_members false = []
 abbrev pub option_members : Options → List Member
 option_members options =
     word (codes "version") (codes "0.1.0")
-    ∷ flag (codes "order") options.order
-    ∷ flag (codes "explain") options.explain
-    ∷ (codes "limits", limits_value options.limits)
-    ∷ listed_member options.labels
-    ∷ (stop_members options.stop ++ (ending_members options.end ++ (unused_members options.unused ++ notes_members options.notes)))
+    ∷ flag (codes "order") options.terms.order
+    ∷ flag (codes "explain") options.terms.explain
+    ∷ (codes "limits", limits_value options.terms.rules.limits)
+    ∷ listed_member options.terms.rules.labels
+    ∷ (stop_members options.terms.stop ++ (ending_members options.end ++ (unused_members options.unused ++ notes_members options.notes)))
 
 -- the data of the summary
 abbrev pub summary_value : Options → Counts → Json

@@ -1,5 +1,5 @@
 -- The lines of the report, byte by byte, each with the byte 10 that ends it. Names stand as their bytes.
-use Rattle.std.specs.Prelude.{ℕ, ◌+◌, List, [], ◌∷◌, ◌++◌, Option, Some, None, map, flat_map, fold, codes, decimal}
+use Rattle.std.specs.Prelude.{ℕ, ◌+◌, List, [], ◌∷◌, ◌++◌, Option, Some, None, map, flat_map, codes, decimal}
 use Rattle.aero_model.specs.declared.verdict.LineFault.{LineFault}
 use Rattle.aero_model.specs.declared.verdict.LineFault.TheVariants as line_faults
 use Rattle.aero_model.specs.declared.verdict.ShapeFault.{ShapeFault}
@@ -15,6 +15,7 @@ use Rattle.aero_model.specs.declared.event.Op.{Op}
 use Rattle.aero_model.specs.declared.event.Op.TheVariants as ops
 use Rattle.aero_model.specs.Named.{Named}
 use Rattle.aero_model.specs.declared.verdict.Counts.{Counts}
+use Rattle.aero_model.specs.Verdicts.{counts_of}
 
 abbrev pub line_fault_name : LineFault → List ℕ
 line_fault_name line_faults.TooLong = codes "TooLong"
@@ -114,29 +115,6 @@ summary_line counts =
     codes "traces " ++ decimal (counts.serializable + counts.pending + counts.violations + counts.faults)
     ++ (codes ": serializable " ++ decimal counts.serializable) ++ (codes ", open " ++ decimal counts.pending)
     ++ (codes ", violations " ++ decimal counts.violations) ++ (codes ", faults " ++ decimal counts.faults) ++ 10 ∷ []
-
-abbrev pub no_counts : Counts
-no_counts = record { serializable = 0; pending = 0; violations = 0; faults = 0 }
-
--- the counts with one more verdict
-abbrev pub verdict_counted : Counts → Verdict → Counts
-verdict_counted counts (Serializable events blocks) = record counts { serializable = counts.serializable + 1 }
-verdict_counted counts (Pending events blocks pending) = record counts { pending = counts.pending + 1 }
-verdict_counted counts (Violation line thread begun) = record counts { violations = counts.violations + 1 }
-verdict_counted counts (Malformed line fault) = record counts { faults = counts.faults + 1 }
-verdict_counted counts (IllFormed line fault) = record counts { faults = counts.faults + 1 }
-
--- the counts with one more source: what couldn't be read whole is a fault
-abbrev pub counted : Counts → Finding → Counts
-counted counts (Judged verdict) = verdict_counted counts verdict
-counted counts (Ordered verdict steps) = verdict_counted counts verdict
-counted counts (Explained verdict cycle) = verdict_counted counts verdict
-counted counts (Opened verdict blocks) = verdict_counted counts verdict
-counted counts (Broken bytes) = record counts { faults = counts.faults + 1 }
-counted counts TooLarge = record counts { faults = counts.faults + 1 }
-
-abbrev pub counts_of : List Finding → Counts
-counts_of findings = fold counted no_counts findings
 
 -- the lines of sources with these names and findings, in order
 abbrev pub source_lines : List (List ℕ × Finding) → List ℕ

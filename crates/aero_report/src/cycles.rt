@@ -29,7 +29,8 @@ pub(crate) fn write_label(out: &mut Line, label: &Option<Name>) -> Result<(), Al
 }
 
 fn write_events(out: &mut Line, steps: &[CycleStep]) -> Result<(), AllocError>
-    ensures { OnOk result (out.new ≡ out.old ++ member_tokens (list (codes "cycle") (map cycle_step_value steps.now))) }
+    ensures { OnOk result (out.new ≡ out.old ++
+        member_tokens (list (codes "cycle") (map cycle_step_value steps.now))) }
 {
     out.begin_array("cycle")?;
     write_cycle_steps(out, steps)?;
@@ -37,7 +38,8 @@ fn write_events(out: &mut Line, steps: &[CycleStep]) -> Result<(), AllocError>
 }
 
 fn write_cycle_steps(out: &mut Line, steps: &[CycleStep]) -> Result<(), AllocError>
-    ensures { OnOk result (out.new ≡ out.old ++ flat_map (λ s. json_tokens (cycle_step_value s)) steps.now) }
+    ensures { OnOk result (out.new ≡ out.old ++ flat_map (λ s. json_tokens (cycle_step_value s))
+        steps.now) }
 {
     for step in steps {
         write_cycle_step(out, step)?;
@@ -73,7 +75,8 @@ fn write_target(out: &mut Line, target: &Option<Name>) -> Result<(), AllocError>
 }
 
 fn write_transactions(out: &mut Line, transactions: &[CycleTransaction]) -> Result<(), AllocError>
-    ensures { OnOk result (out.new ≡ out.old ++ member_tokens (list (codes "transactions") (map transaction_value transactions.now))) }
+    ensures { OnOk result (out.new ≡ out.old ++
+        member_tokens (list (codes "transactions") (map transaction_value transactions.now))) }
 {
     out.begin_array("transactions")?;
     write_all_transactions(out, transactions)?;
@@ -84,7 +87,8 @@ fn write_all_transactions(
     out: &mut Line,
     transactions: &[CycleTransaction],
 ) -> Result<(), AllocError>
-    ensures { OnOk result (out.new ≡ out.old ++ flat_map (λ t. json_tokens (transaction_value t)) transactions.now) }
+    ensures { OnOk result (out.new ≡ out.old ++ flat_map (λ t. json_tokens (transaction_value t))
+        transactions.now) }
 {
     for transaction in transactions {
         write_transaction(out, transaction)?;
@@ -126,7 +130,8 @@ fn write_end(out: &mut Line, end: Option<u32>) -> Result<(), AllocError>
 }
 
 fn write_closing(out: &mut Line, event: &Event) -> Result<(), AllocError>
-    ensures { OnOk result (out.new ≡ out.old ++ member_tokens (codes "closing", object_of (event_members event.now))) }
+    ensures { OnOk result (out.new ≡ out.old ++
+        member_tokens (codes "closing", object_of (event_members event.now))) }
 {
     out.begin_member("closing")?;
     write_event(out, event)?;

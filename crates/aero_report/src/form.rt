@@ -55,8 +55,10 @@ pub fn totals_text(
     options: Options<'_>,
     counts: &Counts,
 ) -> Result<Vec<u8>, AllocError>
-    ensures text { IfOk result (λ text. text.items ≡ summary_line_in form (options_of options.entry) counts.now) }
-    ensures readable { OnOk result (IsReadable form (summary_value (options_of options.entry) counts.now)) }
+    ensures text { IfOk result (λ text. text.items ≡ summary_line_in form (options_of options.entry)
+        counts.now) }
+    ensures readable { OnOk result
+        (IsReadable form (summary_value (options_of options.entry) counts.now)) }
 {
     match form {
         Form::Text | Form::Terminal => summary_text(alloc, counts),

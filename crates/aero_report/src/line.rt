@@ -121,7 +121,8 @@ impl Line {
 
     /// A member that is a name.
     pub fn name(&mut self, label: &str, name: &[u8]) -> Result<(), AllocError>
-        ensures { OnOk result (self.new ≡ self.old ++ (key label.now ∷ json_tokens (name_value name.now))) }
+        ensures { OnOk result (self.new ≡ self.old ++
+            (key label.now ∷ json_tokens (name_value name.now))) }
     {
         self.writer.key(label)?;
         self.name_alone(name)

@@ -18,7 +18,8 @@ pub struct Note {
 
 /// The notes, where there are any.
 pub fn write_notes(out: &mut Line, notes: &[Note]) -> Result<(), AllocError>
-    ensures { OnOk result (out.new ≡ out.old ++ all_members_tokens (notes_members (map note_of notes.now))) }
+    ensures { OnOk result (out.new ≡ out.old ++
+        all_members_tokens (notes_members (map note_of notes.now))) }
 {
     if notes.is_empty() {
         return Ok(());
@@ -29,7 +30,8 @@ pub fn write_notes(out: &mut Line, notes: &[Note]) -> Result<(), AllocError>
 }
 
 fn write_all_notes(out: &mut Line, notes: &[Note]) -> Result<(), AllocError>
-    ensures { OnOk result (out.new ≡ out.old ++ flat_map (λ n. json_tokens (note_value n)) (map note_of notes.now)) }
+    ensures { OnOk result (out.new ≡ out.old ++ flat_map (λ n. json_tokens (note_value n))
+        (map note_of notes.now)) }
 {
     for note in notes {
         write_note(out, note)?;

@@ -88,7 +88,8 @@ fn write_verdict(out: &mut Line, verdict: &Verdict) -> Result<(), AllocError>
 
 fn write_sizes(out: &mut Line, verdict: &str, events: u32, blocks: u32) -> Result<(), AllocError>
     ensures { OnOk result (out.new ≡ out.old ++ all_members_tokens
-        (word (codes "verdict") verdict.now ∷ count (codes "events") events ∷ count (codes "blocks") blocks ∷ [])) }
+        (word (codes "verdict") verdict.now ∷ count (codes "events") events ∷ count (codes "blocks")
+        blocks ∷ [])) }
 {
     out.word("verdict", verdict)?;
     out.count("events", events)?;
@@ -97,7 +98,8 @@ fn write_sizes(out: &mut Line, verdict: &str, events: u32, blocks: u32) -> Resul
 
 fn write_violation(out: &mut Line, line: u32, thread: &[u8], begun: u32) -> Result<(), AllocError>
     ensures { OnOk result (out.new ≡ out.old ++ all_members_tokens
-        (word (codes "verdict") (codes "violation") ∷ count (codes "line") line ∷ name (codes "thread") thread.now ∷ count (codes "begun") begun ∷ [])) }
+        (word (codes "verdict") (codes "violation") ∷ count (codes "line") line ∷ name
+        (codes "thread") thread.now ∷ count (codes "begun") begun ∷ [])) }
 {
     out.word("verdict", "violation")?;
     out.count("line", line)?;
@@ -114,7 +116,8 @@ fn write_fault(
     words: &str,
 ) -> Result<(), AllocError>
     ensures { OnOk result (out.new ≡ out.old ++ all_members_tokens
-        (word (codes "verdict") verdict.now ∷ count (codes "line") line ∷ word (codes "fault") fault.now ∷ word (codes "note") words.now ∷ [])) }
+        (word (codes "verdict") verdict.now ∷ count (codes "line") line ∷ word (codes "fault")
+        fault.now ∷ word (codes "note") words.now ∷ [])) }
 {
     out.word("verdict", verdict)?;
     out.count("line", line)?;
@@ -123,7 +126,8 @@ fn write_fault(
 }
 
 fn write_order(out: &mut Line, steps: &[Step]) -> Result<(), AllocError>
-    ensures { OnOk result (out.new ≡ out.old ++ member_tokens (list (codes "order") (map step_value steps.now))) }
+    ensures { OnOk result (out.new ≡ out.old ++
+        member_tokens (list (codes "order") (map step_value steps.now))) }
 {
     out.begin_array("order")?;
     write_steps(out, steps)?;
@@ -131,7 +135,8 @@ fn write_order(out: &mut Line, steps: &[Step]) -> Result<(), AllocError>
 }
 
 fn write_steps(out: &mut Line, steps: &[Step]) -> Result<(), AllocError>
-    ensures { OnOk result (out.new ≡ out.old ++ flat_map (λ s. json_tokens (step_value s)) steps.now) }
+    ensures { OnOk result (out.new ≡ out.old ++ flat_map (λ s. json_tokens (step_value s))
+        steps.now) }
 {
     for step in steps {
         write_step(out, step.line, step.thread.bytes())?;
@@ -151,7 +156,8 @@ fn write_step(out: &mut Line, line: u32, thread: &[u8]) -> Result<(), AllocError
 }
 
 fn write_opened(out: &mut Line, blocks: &[OpenBlock]) -> Result<(), AllocError>
-    ensures { OnOk result (out.new ≡ out.old ++ member_tokens (list (codes "opened") (map open_block_value blocks.now))) }
+    ensures { OnOk result (out.new ≡ out.old ++
+        member_tokens (list (codes "opened") (map open_block_value blocks.now))) }
 {
     out.begin_array("opened")?;
     write_open_blocks(out, blocks)?;
@@ -159,7 +165,8 @@ fn write_opened(out: &mut Line, blocks: &[OpenBlock]) -> Result<(), AllocError>
 }
 
 fn write_open_blocks(out: &mut Line, blocks: &[OpenBlock]) -> Result<(), AllocError>
-    ensures { OnOk result (out.new ≡ out.old ++ flat_map (λ b. json_tokens (open_block_value b)) blocks.now) }
+    ensures { OnOk result (out.new ≡ out.old ++ flat_map (λ b. json_tokens (open_block_value b))
+        blocks.now) }
 {
     for block in blocks {
         write_open_block(out, block)?;

@@ -8,23 +8,18 @@ ghost use Rattle.aero_report.specs.Members.{member_tokens, all_members_tokens};
 use crate::line::Line;
 use crate::notes::{Note, write_notes};
 use crate::summary::sources_of;
-use aero_model::{Counts, Except, Limits, Name};
+use aero_model::{Counts, Except, Limits, Name, Terms};
 use std::alloc::{AllocError, Global};
 
 /// The program's version.
 pub const VERSION: &str = "0.1.0";
 
-/// How the sources of a report were judged, as far as its summary tells it: the limits of a source, which of its blocks
-/// are no transactions, whether the serial order was asked for, whether violations were to be explained, whether a source
-/// was read no further once its verdict was certain, whether the blocks that were open at its end ended there, with which
-/// labels of the list no block begins, and what is told of the sources beside their lines.
+/// How the sources of a report were judged, as its summary says it: on which terms, whether the blocks that were open at
+/// the end of a source ended there, with which labels of the list no block begins, and what is noted of the sources beside
+/// their lines.
 #[derive(Clone, Copy)]
 pub struct Options<'a> {
-    pub limits: &'a Limits,
-    pub except: &'a Except,
-    pub order: bool,
-    pub explain: bool,
-    pub stop: bool,
+    pub terms: &'a Terms,
     pub end: bool,
     pub unused: &'a [&'a Name],
     pub notes: &'a [Note],
@@ -45,8 +40,10 @@ pub fn summary_object(
     options: Options<'_>,
     counts: &Counts,
 ) -> Result<Vec<u8>, AllocError>
-    ensures text { IfOk result (λ text. text.items ≡ json_line (summary_value (options_of options.entry) counts.now)) }
-    ensures reads_back { OnOk result (ReadsBack (summary_value (options_of options.entry) counts.now)) }
+    ensures text { IfOk result (λ text. text.items ≡
+        json_line (summary_value (options_of options.entry) counts.now)) }
+    ensures reads_back { OnOk result
+        (ReadsBack (summary_value (options_of options.entry) counts.now)) }
 {
     let mut out = Line::new(alloc);
     write_summary(&mut out, options, counts)?;
@@ -54,7 +51,8 @@ pub fn summary_object(
 }
 
 fn write_summary(out: &mut Line, options: Options<'_>, counts: &Counts) -> Result<(), AllocError>
-    ensures { OnOk result (out.new ≡ out.old ++ json_tokens (summary_value (options_of options.entry) counts.now)) }
+    ensures { OnOk result (out.new ≡ out.old ++
+        json_tokens (summary_value (options_of options.entry) counts.now)) }
 {
     out.begin_object()?;
     write_counts(out, counts)?;
@@ -73,21 +71,23 @@ fn write_counts(out: &mut Line, counts: &Counts) -> Result<(), AllocError>
 }
 
 fn write_options(out: &mut Line, options: Options<'_>) -> Result<(), AllocError>
-    ensures { OnOk result (out.new ≡ out.old ++ all_members_tokens (option_members (options_of options.entry))) }
+    ensures { OnOk result (out.new ≡ out.old ++
+        all_members_tokens (option_members (options_of options.entry))) }
 {
     out.word("version", VERSION)?;
-    out.flag("order", options.order)?;
-    out.flag("explain", options.explain)?;
-    write_limits(out, options.limits)?;
-    write_listed(out, options.except)?;
-    write_stop(out, options.stop)?;
+    out.flag("order", options.terms.order())?;
+    out.flag("explain", options.terms.explain())?;
+    write_limits(out, options.terms.limits())?;
+    write_listed(out, options.terms.except())?;
+    write_stop(out, options.terms.stop())?;
     write_ending(out, options.end)?;
     write_unused(out, options.unused)?;
     write_notes(out, options.notes)
 }
 
 fn write_limits(out: &mut Line, limits: &Limits) -> Result<(), AllocError>
-    ensures { OnOk result (out.new ≡ out.old ++ member_tokens (codes "limits", limits_value limits.now)) }
+    ensures { OnOk result (out.new ≡ out.old ++
+        member_tokens (codes "limits", limits_value limits.now)) }
 {
     out.begin_member("limits")?;
     out.long_count("bytes", limits.bytes)?;
@@ -113,7 +113,8 @@ fn list_key(only: bool) -> &'static str
 }
 
 fn write_labels(out: &mut Line, labels: &[Name]) -> Result<(), AllocError>
-    ensures { OnOk result (out.new ≡ out.old ++ flat_map (λ l. json_tokens (name_value l)) labels.now) }
+    ensures { OnOk result (out.new ≡ out.old ++ flat_map (λ l. json_tokens (name_value l))
+        labels.now) }
 {
     for label in labels {
         out.name_alone(label.bytes())?;
@@ -143,7 +144,8 @@ fn write_ending(out: &mut Line, end: bool) -> Result<(), AllocError>
 
 // The labels with which no block begins, where there are any.
 fn write_unused(out: &mut Line, labels: &[&Name]) -> Result<(), AllocError>
-    ensures { OnOk result (out.new ≡ out.old ++ all_members_tokens (unused_members (map (λ label. label.now) labels.now))) }
+    ensures { OnOk result (out.new ≡ out.old ++
+        all_members_tokens (unused_members (map (λ label. label.now) labels.now))) }
 {
     if labels.is_empty() {
         return Ok(());
@@ -154,7 +156,8 @@ fn write_unused(out: &mut Line, labels: &[&Name]) -> Result<(), AllocError>
 }
 
 fn write_unused_labels(out: &mut Line, labels: &[&Name]) -> Result<(), AllocError>
-    ensures { OnOk result (out.new ≡ out.old ++ flat_map (λ l. json_tokens (name_value l)) (map (λ label. label.now) labels.now)) }
+    ensures { OnOk result (out.new ≡ out.old ++ flat_map (λ l. json_tokens (name_value l))
+        (map (λ label. label.now) labels.now)) }
 {
     for label in labels {
         out.name_alone(label.bytes())?;

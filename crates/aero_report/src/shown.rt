@@ -53,7 +53,8 @@ pub fn append_lines(text: &mut Vec<u8>, bytes: &[u8]) -> Result<(), AllocError>
 
 // Adds the bytes as they are shown.
 fn append_shown(text: &mut Vec<u8>, bytes: &[u8], ends_stay: bool) -> Result<(), AllocError>
-    ensures { OnOk result (text.new.items ≡ text.old.items ++ flat_map (shown_character ends_stay) (characters bytes.now)) }
+    ensures { OnOk result (text.new.items ≡ text.old.items ++ flat_map (shown_character ends_stay)
+        (characters bytes.now)) }
 {
     let mut rest = bytes;
     while !rest.is_empty() {
@@ -66,7 +67,8 @@ fn append_shown(text: &mut Vec<u8>, bytes: &[u8], ends_stay: bool) -> Result<(),
 
 // Adds a character, or a byte that belongs to none, as it is shown.
 fn append_character(text: &mut Vec<u8>, character: &[u8], ends_stay: bool) -> Result<(), AllocError>
-    ensures { OnOk result (text.new.items ≡ text.old.items ++ shown_character ends_stay character.now) }
+    ensures { OnOk result (text.new.items ≡ text.old.items ++
+        shown_character ends_stay character.now) }
 {
     if stands(character, ends_stay) {
         text.extend_from_slice(character)

@@ -27,7 +27,8 @@ pub fn summary_text(alloc: Global, counts: &Counts) -> Result<Vec<u8>, AllocErro
 
 // How many sources were counted. Four numbers of 64 bits have a sum of 66 bits.
 pub fn sources_of(counts: &Counts) -> u128
-    ensures { result ≡ counts.now.serializable + counts.now.pending + counts.now.violations + counts.now.faults }
+    ensures { result ≡ counts.now.serializable + counts.now.pending + counts.now.violations +
+        counts.now.faults }
 {
     u128::from(counts.serializable)
         + u128::from(counts.pending)

@@ -187,7 +187,8 @@ fn append_pending(
     pending: u32,
 ) -> Result<(), AllocError>
     ensures { OnOk result (text.new.items
-        ≡ text.old.items ++ (codes ": no violation, " ++ decimal pending ++ codes " blocks open " ++ sizes_text events blocks)) }
+        ≡ text.old.items ++ (codes ": no violation, " ++ decimal pending ++ codes " blocks open " ++
+        sizes_text events blocks)) }
 {
     append_count(text, b": no violation, ", pending)?;
     text.extend_from_slice(b" blocks open ")?;
@@ -202,7 +203,8 @@ fn append_violation(
     begun: u32,
 ) -> Result<(), AllocError>
     ensures { OnOk result (text.new.items
-        ≡ text.old.items ++ (codes ": violation at line " ++ decimal line ++ (codes ": block of " ++ thread.now ++ (codes " from line " ++ decimal begun)))) }
+        ≡ text.old.items ++ (codes ": violation at line " ++ decimal line ++
+        (codes ": block of " ++ thread.now ++ (codes " from line " ++ decimal begun)))) }
 {
     append_count(text, b": violation at line ", line)?;
     append_block(text, thread, begun)
@@ -211,7 +213,8 @@ fn append_violation(
 // The thread of a block, and the line of its begin.
 fn append_block(text: &mut Vec<u8>, thread: &[u8], begun: u32) -> Result<(), AllocError>
     ensures { OnOk result (text.new.items
-        ≡ text.old.items ++ (codes ": block of " ++ thread.now ++ (codes " from line " ++ decimal begun))) }
+        ≡ text.old.items ++ (codes ": block of " ++ thread.now ++
+        (codes " from line " ++ decimal begun))) }
 {
     text.extend_from_slice(b": block of ")?;
     text.extend_from_slice(thread)?;

@@ -3,9 +3,8 @@ use crate::except::listed;
 use crate::intake::lines_of;
 use aero_grammar::{Parsed, parse_block};
 use aero_intake::live::Live;
-use aero_model::{Finding, Limits, SharedExcept};
+use aero_model::{Finding, Limits, SharedExcept, Terms};
 use aero_report::trace_text;
-use aero_verdict::Terms;
 use std::alloc::{AllocError, Global};
 use std::test::Fail;
 

@@ -1,6 +1,6 @@
 // What no clause says of summaries as JSON: texts known from elsewhere.
 use crate::objects::is_line;
-use aero_model::{Counts, Except, Finding, Limits, Name};
+use aero_model::{Counts, Except, Finding, Limits, Name, SharedExcept, Terms};
 use aero_report::{Form, Note, Options, source_text, totals_text};
 use std::alloc::Global;
 
@@ -114,6 +114,15 @@ fn except_of(alloc: Global, asked: &Asked) -> Option<Except> {
     }
 }
 
+fn terms_of(alloc: Global, limits: Limits, asked: &Asked) -> Option<Terms> {
+    let except = SharedExcept::new(alloc, except_of(alloc, asked)?).ok()?;
+    let mut terms = Terms::new(limits, except, asked.order, asked.explain);
+    if asked.stop {
+        terms.ask_to_stop();
+    }
+    Some(terms)
+}
+
 // All labels, or none.
 fn labels_of(alloc: Global, labels: &[Name], all: bool) -> Option<Vec<&Name>> {
     let mut found = Vec::new(alloc);
@@ -142,19 +151,14 @@ fn is_summed_so(alloc: Global, row: &Counted, asked: &Asked, notes: &[Note]) -> 
         violations,
         faults,
     };
-    let Some(except) = except_of(alloc, asked) else {
+    let Some(terms) = terms_of(alloc, Limits::greatest(), asked) else {
         return false;
     };
-    let Some(unused) = labels_of(alloc, except.labels(), asked.are_unused) else {
+    let Some(unused) = labels_of(alloc, terms.except().labels(), asked.are_unused) else {
         return false;
     };
-    let limits = Limits::greatest();
     let options = Options {
-        limits: &limits,
-        except: &except,
-        order: asked.order,
-        explain: asked.explain,
-        stop: asked.stop,
+        terms: &terms,
         end: asked.ends,
         unused: &unused,
         notes,
@@ -283,16 +287,12 @@ fn has_totals_text(alloc: Global) -> bool {
         faults: 1,
     };
     let line = "traces 1: serializable 0, open 0, violations 0, faults 1";
-    let Some(except) = except_of(alloc, &ASKED[2]) else {
+    let Some(mut terms) = terms_of(alloc, Limits::long(), &ASKED[2]) else {
         return false;
     };
-    let limits = Limits::long();
+    terms.ask_to_stop();
     let options = Options {
-        limits: &limits,
-        except: &except,
-        order: true,
-        explain: true,
-        stop: true,
+        terms: &terms,
         end: true,
         unused: &[],
         notes: &[],

@@ -82,7 +82,9 @@ fn grow(table: &mut Vec<Around>, thread: u32) -> Result<(), AllocError>
 
 fn open_at(table: &mut [Around], thread: u32, depth: u32) -> Result<(), AllocError>
     requires { thread < length table.old }
-    ensures ok { OnOk result ((t : ℕ) → around_at table.new t ≡ (if thread == t then around_at table.old t ++ depth ∷ [] else around_at table.old t)) }
+    ensures ok { OnOk result ((t : ℕ) →
+        around_at table.new t ≡ (if thread == t then around_at table.old t ++
+        depth ∷ [] else around_at table.old t)) }
     ensures err { OnErr result (table.new ≡ table.old) }
 {
     table[thread as usize].open(depth)
@@ -95,7 +97,9 @@ pub(crate) fn open_exempt(
     thread: u32,
     depth: u32,
 ) -> Result<(), AllocError>
-    ensures ok { OnOk result ((t : ℕ) → around_at table.new.items t ≡ (if thread == t then around_at table.old.items t ++ depth ∷ [] else around_at table.old.items t)) }
+    ensures ok { OnOk result ((t : ℕ) →
+        around_at table.new.items t ≡ (if thread == t then around_at table.old.items t ++
+        depth ∷ [] else around_at table.old.items t)) }
     ensures err { OnErr result (table.new.items ≡ table.old.items) }
 {
     let had = table.len();
@@ -113,7 +117,9 @@ pub(crate) fn open_exempt(
 // The thread's innermost exempt block ends, if one does.
 #[inline(always)]
 pub(crate) fn close_exempt(table: &mut [Around], thread: u32, closes: bool)
-    ensures { (t : ℕ) → around_at table.new t ≡ (if closes && (thread == t) then take (length (around_at table.old t) - 1) (around_at table.old t) else around_at table.old t) }
+    ensures { (t : ℕ) → around_at table.new t ≡
+        (if closes && (thread == t) then take (length (around_at table.old t) - 1)
+        (around_at table.old t) else around_at table.old t) }
 {
     if closes && (thread as usize) < table.len() {
         table[thread as usize].close();

@@ -74,12 +74,16 @@ pub(crate) fn make_room(
     requires { judged.now.opens ≡ true → judged.now.event.what ≡ What.Exempt }
     ensures threads { (t : ℕ) → thread_at threads.new.items t ≡ thread_at threads.old.items t }
     ensures locks { (l : ℕ) → lock_at locks.new.items l ≡ lock_at locks.old.items l }
-    ensures exempt { OnOk result ((t : ℕ) → around_at exempt.new.items t ≡ (if judged.now.opens && (judged.now.event.thread == t) then around_at exempt.old.items t ++ judged.now.depth ∷ [] else around_at exempt.old.items t)) }
+    ensures exempt { OnOk result ((t : ℕ) →
+        around_at exempt.new.items t ≡
+        (if judged.now.opens && (judged.now.event.thread == t) then around_at exempt.old.items t ++
+        judged.now.depth ∷ [] else around_at exempt.old.items t)) }
     ensures actor { OnOk result (judged.now.event.thread < vec_len threads.new) }
     ensures target { OnOk result (HasThreadPlace threads.new.items judged.now.event.what) }
     ensures lock { OnOk result (HasLockPlace locks.new.items judged.now.event.what) }
     ensures locks_grow { vec_len locks.old ≤ vec_len locks.new }
-    ensures room { judged.now.opens ≡ false → HavePlaces threads.old.items locks.old.items judged.now.event → IsOk result }
+    ensures room { judged.now.opens ≡ false →
+        HavePlaces threads.old.items locks.old.items judged.now.event → IsOk result }
     ensures threads_on_err { OnErr result (threads.new.items ≡ threads.old.items) }
     ensures locks_on_err { OnErr result (locks.new.items ≡ locks.old.items) }
     ensures exempt_on_err { OnErr result (exempt.new.items ≡ exempt.old.items) }

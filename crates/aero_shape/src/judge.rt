@@ -60,9 +60,13 @@ pub(crate) fn judge(
 ) -> Judged
     ensures depth { result.depth ≡ (thread_at threads.now event.now.thread).depth }
     ensures opens { result.opens ≡ begins_exempt event.now.what exempt }
-    ensures closes { result.closes ≡ (is_end event.now.what && is_last (thread_at threads.now event.now.thread).depth (around_at around.now event.now.thread)) }
+    ensures closes { result.closes ≡
+        (is_end event.now.what && is_last (thread_at threads.now event.now.thread).depth
+        (around_at around.now event.now.thread)) }
     ensures thread { result.event.thread ≡ event.now.thread }
-    ensures what { result.event.what ≡ judged_told (exempt_told threads.now around.now event.now.thread exempt event.now.what) event.now.what }
+    ensures what { result.event.what ≡
+        judged_told (exempt_told threads.now around.now event.now.thread exempt event.now.what)
+        event.now.what }
 {
     let Numbered { thread, what } = *event;
     let depth = state_at(threads, thread, IDLE).depth;

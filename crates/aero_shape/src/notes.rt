@@ -11,7 +11,8 @@ fn note_deed(threads: &mut [ThreadState], thread: u32, what: What)
     requires actor { thread < length threads.old }
     requires room { (thread_at threads.old thread).depth < u32.MAX }
     requires begun { what ≡ What.End → 0 < (thread_at threads.old thread).depth }
-    ensures { threads.new ≡ slice_set threads.old thread (acting what (thread_at threads.old thread)) }
+    ensures { threads.new ≡ slice_set threads.old thread
+        (acting what (thread_at threads.old thread)) }
 {
     let actor = &mut threads[thread as usize];
     actor.acted = true;
@@ -40,7 +41,8 @@ pub(crate) fn note_threads(threads: &mut [ThreadState], event: &Numbered)
     requires actor { event.now.thread < length threads.old }
     requires target { HasThreadPlace threads.old event.now.what }
     requires room { (thread_at threads.old event.now.thread).depth < u32.MAX }
-    requires begun { event.now.what ≡ What.End → 0 < (thread_at threads.old event.now.thread).depth }
+    requires begun { event.now.what ≡ What.End →
+        0 < (thread_at threads.old event.now.thread).depth }
     ensures { (t : ℕ) → thread_at threads.new t ≡ thread_after t event.now (thread_at threads.old t) }
 {
     note_deed(threads, event.thread, event.what);

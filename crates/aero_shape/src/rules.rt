@@ -84,7 +84,8 @@ pub(crate) fn kind_of(threads: &[ThreadState], event: &Numbered) -> Admitted
 #[inline(always)]
 pub(crate) fn access_of(threads: &[ThreadState], event: &Numbered) -> Option<Admitted>
     ensures told { IfSome result (IsUsualAccess threads.now event.now) }
-    ensures missed { IfNone result ((admitted : Admitted) → IsUsualAccess threads.now event.now admitted → ⊥) }
+    ensures missed { IfNone result ((admitted : Admitted) →
+        IsUsualAccess threads.now event.now admitted → ⊥) }
 {
     let Numbered { thread, what } = *event;
     let (What::Read(_) | What::Write(_)) = what else {

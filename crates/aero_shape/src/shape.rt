@@ -113,7 +113,8 @@ impl Shape {
             → StandsFor self.old h
             → StandsFor self.new (h ++ record { event = event.now; exempt = exempt } ∷ [])) }
         ensures none { IfNone result (self.new ≡ self.old) }
-        ensures missed { IfNone result ((admitted : Admitted) → IsUsualAccess self.old.threads event.now admitted → ⊥) }
+        ensures missed { IfNone result ((admitted : Admitted) →
+            IsUsualAccess self.old.threads event.now admitted → ⊥) }
     {
         let kind = access_of(&self.threads, event)?;
         self.admitted += 1;

@@ -79,7 +79,8 @@ fn add<K: Room, R: Wait>(
     requires poster { IsPoster (view pass.old) }
     ensures seat { IsSeatAt (sends_on sender.now) pass.new }
     ensures rule { MatchResult result (λ _. Posted K.room (view pass.old) slip (view pass.new))
-        (λ e. (e ≡ slip) × (view pass.new ≡ view pass.old) × Held K.room (Queued (desk_of (view pass.old)))) }
+        (λ e. (e ≡ slip) × (view pass.new ≡ view pass.old) ×
+        Held K.room (Queued (desk_of (view pass.old)))) }
 {
     for _ in rt.forever() {
         match sender.try_send_as::<Post<K>, R>(rt, pass, slip) {
@@ -106,7 +107,8 @@ fn remove<R: Wait>(
     requires poster { IsPoster (view pass.old) }
     ensures seat { IsSeatAt (receives_on receiver.now) pass.new }
     ensures some { IfSome result (λ job. TakenBack (view pass.old) (Slip.Work job) (view pass.new)) }
-    ensures none { IfNone result ((view pass.new ≡ view pass.old) × Queued (desk_of (view pass.old)) []) }
+    ensures none { IfNone result ((view pass.new ≡ view pass.old) × Queued (desk_of (view pass.old))
+        []) }
 {
     for _ in rt.forever() {
         match receiver.try_recv_as::<TakeBack, R>(rt, pass) {
@@ -129,7 +131,8 @@ impl Poster {
     /// job, only where, as far as the Poster can know, the queue was full at a moment of the call. It
     /// can't know what Takers that are out have taken.
     pub fn post<R: Wait>(&mut self, rt: &R, job: Job) -> Result<(), Full>
-        ensures posted { OnOk result (self.new ≡ record self.old { desk = with_post self.old.capacity self.old.desk job }) }
+        ensures posted { OnOk result (self.new ≡
+            record self.old { desk = with_post self.old.capacity self.old.desk job }) }
         ensures full { IfErr result (λ e. (e.job ≡ job) × (self.new ≡ self.old) × WasFull self.old) }
         ensures bound { self.new.desk.bound ≤ self.new.capacity }
     {
@@ -143,7 +146,8 @@ impl Poster {
     /// Posts a stop, which ends the Taker that takes it. False, which changes nothing, only where,
     /// as far as the Poster can know, the queue was full at a moment of the call.
     pub fn stop<R: Wait>(&mut self, rt: &R) -> bool
-        ensures { MatchBool result (self.new ≡ record self.old { desk = with_stop self.old.desk }) ((self.new ≡ self.old) × WasFull self.old) }
+        ensures { MatchBool result (self.new ≡ record self.old { desk = with_stop self.old.desk })
+            ((self.new ≡ self.old) × WasFull self.old) }
     {
         add::<Brand, R>(rt, &self.sender, &mut self.pass, Slip::Stop).is_ok()
     }
@@ -153,7 +157,9 @@ impl Poster {
     /// call. Once each Taker has rejoined it knows: what was taken back and the hands of the Takers
     /// then have each job as often as it was posted.
     pub fn take_back<R: Wait>(&mut self, rt: &R) -> Option<Job>
-        ensures back { IfSome result (λ job. (self.new ≡ record self.old { desk = with_back self.old.desk job }) × WasFront self.old job) }
+        ensures back { IfSome result (λ job.
+            (self.new ≡ record self.old { desk = with_back self.old.desk job }) ×
+            WasFront self.old job) }
         ensures lower { IfSome result (λ _. self.new.desk.bound < self.old.desk.bound) }
         ensures empty { IfNone result ((self.new ≡ self.old) × WasEmpty self.old) }
         ensures settled { IfNone result (IsSettled self.old) }
@@ -163,7 +169,8 @@ impl Poster {
 
     // A new Taker.
     fn taker(&mut self) -> Result<Taker, AllocError>
-        ensures { IfOk result (λ t. (t ≡ new_taker self.old.stage) × (self.new ≡ record self.old { desk = with_taker self.old.desk })) }
+        ensures { IfOk result (λ t. (t ≡ new_taker self.old.stage) ×
+            (self.new ≡ record self.old { desk = with_taker self.old.desk })) }
     {
         let receiver = self.receiver.try_clone()?;
         let pass = self.sender.another::<Roles>(&mut self.pass);
@@ -189,7 +196,8 @@ impl Taker {
     /// Poster is gone and the queue was empty, and at once on every later call. No clause says that
     /// it returns, nor that `None` comes only there.
     pub fn take<R: Wait>(&mut self, rt: &R) -> Option<Job>
-        ensures took { IfSome result (λ job. (self.old.over ≡ false) × (self.new.over ≡ false) × (self.new.stage ≡ self.old.stage)
+        ensures took { IfSome result (λ job. (self.old.over ≡ false) × (self.new.over ≡ false) ×
+            (self.new.stage ≡ self.old.stage)
             × IsTake self.old.hand job self.new.hand) }
         ensures over { IfNone result (self.new ≡ record self.old { over = true }) }
     {

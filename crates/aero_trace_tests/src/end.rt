@@ -1,4 +1,5 @@
 use crate::leads::{event_of, make_by_clocks};
+use crate::said::{Said, TESTED, Tested, Tests, first_missaid};
 use aero_access::Clocks;
 use aero_engine::Spent;
 use std::alloc::Global;
@@ -74,65 +75,25 @@ fn the_last_event_closes_a_cycle_or_none(rt: HostRuntime) {
     assert_eq!(rt; first_wrong(rt.alloc(), &ROWS), None);
 }
 
-// What the tests say of a thread: whether it is in a block, whether it has made an event, and how many
-// outermost begins it has made.
-type Said = (bool, bool, u32);
-
-// A trace, and what they say of threads 0 to 2 then.
-type Tested = (&'static str, [Said; 3]);
-
 fn said_of(clocks: &Clocks, t: u32) -> Said {
     (clocks.in_block(t), clocks.acted(t), clocks.begins(t))
 }
 
-fn is_said(alloc: Global, row: &Tested) -> bool {
-    let mut clocks = Clocks::new(alloc);
-    run(&mut clocks, row.0).is_ok()
-        && [
-            said_of(&clocks, 0),
-            said_of(&clocks, 1),
-            said_of(&clocks, 2),
-        ] == row.1
-}
-
-// The first row that doesn't hold.
-fn first_missaid(alloc: Global, rows: &[Tested]) -> Option<usize> {
-    for i in 0..rows.len() {
-        if !is_said(alloc, &rows[i]) {
-            return Some(i);
-        }
+impl Tests for Clocks {
+    fn is_said(alloc: Global, row: &Tested) -> bool {
+        let mut clocks = Clocks::new(alloc);
+        run(&mut clocks, row.0).is_ok()
+            && [
+                said_of(&clocks, 0),
+                said_of(&clocks, 1),
+                said_of(&clocks, 2),
+            ] == row.1
     }
-    None
 }
-
-const TESTED: [Tested; 5] = [
-    (
-        "0|begin/0|w(0)/1|r(0)",
-        [(true, true, 1), (false, true, 0), (false, false, 0)],
-    ),
-    // A thread is answered, by an event and by an end: what the tests say stays.
-    (
-        "0|begin/0|w(0)/1|r(0)/1|r(1)/0|w(1)",
-        [(true, true, 1), (false, true, 0), (false, false, 0)],
-    ),
-    (
-        "0|begin/1|begin/1|w(1)/0|w(0)/1|r(0)/0|r(1)/0|end",
-        [(true, true, 1), (true, true, 1), (false, false, 0)],
-    ),
-    // A thread that is forked and joined has made no event.
-    (
-        "0|begin/0|fork(1)/0|join(1)/0|end",
-        [(false, true, 1), (false, false, 0), (false, false, 0)],
-    ),
-    (
-        "0|begin/0|w(0)/1|r(0)/0|end",
-        [(false, true, 1), (false, true, 0), (false, false, 0)],
-    ),
-];
 
 #[test]
 fn the_tests_answer_for_each_thread(rt: HostRuntime) {
-    assert_eq!(rt; first_missaid(rt.alloc(), &TESTED), None);
+    assert_eq!(rt; first_missaid::<Clocks>(rt.alloc(), &TESTED), None);
 }
 
 // Whether thread 0 leads to thread 1, the last write and the last read. These are listed, and thread 0 itself.

@@ -1,10 +1,10 @@
-use crate::model::except_of;
+use crate::model::terms_of;
 use crate::verdict::{parts_of, push_words};
 use aero_grammar::Parsed;
 use aero_model::{
-    Cycle, CycleStep, CycleTransaction, Event, Except, Extent, Finding, Limits, Name, Verdict,
+    Cycle, CycleStep, CycleTransaction, Event, Extent, Finding, Limits, Name, Terms, Verdict,
 };
-use aero_verdict::{Monitor, Recorder, check_trace_explained, check_trace_in_full, feed_all};
+use aero_verdict::{Judge, judge_trace};
 use std::alloc::Global;
 
 // The helpers below say that a row doesn't hold where memory is refused.
@@ -112,55 +112,31 @@ fn says(alloc: Global, verdict: &Verdict, cycle: &Option<Cycle>, wanted: &str) -
     fits && words.as_str() == wanted
 }
 
-fn is_told(
-    alloc: Global,
-    parts: &[Parsed],
-    limits: &Limits,
-    except: &Except,
-    wanted: &str,
-) -> bool {
-    match check_trace_explained(alloc, parts, limits, except) {
-        Ok((verdict, cycle)) => says(alloc, &verdict, &cycle, wanted),
-        Err(_) => false,
-    }
-}
-
-// What shows the verdict that is certain by now, while the monitor goes on.
-fn shows(alloc: Global, monitor: &Monitor<Recorder>, wanted: &str) -> bool {
-    match (monitor.certain(), monitor.explain()) {
-        (Some(verdict), Ok(cycle)) => says(alloc, verdict, &cycle, wanted),
-        (None, Ok(None)) => wanted.starts_with("serializable"),
-        _ => false,
-    }
-}
-
-fn is_shown(
-    alloc: Global,
-    parts: &[Parsed],
-    limits: &Limits,
-    except: &Except,
-    wanted: &str,
-) -> bool {
-    let mut monitor = Monitor::<Recorder>::new(alloc, limits, except);
-    feed_all(&mut monitor, parts, except);
-    shows(alloc, &monitor, wanted)
-}
-
-// What is found where the order is asked for too.
-fn is_found(
-    alloc: Global,
-    parts: &[Parsed],
-    limits: &Limits,
-    except: &Except,
-    wanted: &str,
-) -> bool {
-    match check_trace_in_full(alloc, parts, limits, except) {
+// What is found of the parts at once.
+fn is_found(alloc: Global, parts: &[Parsed], terms: &Terms, wanted: &str) -> bool {
+    match judge_trace(alloc, parts, terms) {
         Ok(Finding::Explained(verdict, cycle)) => says(alloc, &verdict, &Some(cycle), wanted),
         Ok(Finding::Ordered(verdict, _)) => says(alloc, &verdict, &None, wanted),
         Ok(Finding::Judged(verdict)) => says(alloc, &verdict, &None, wanted),
         Ok(Finding::Opened(verdict, _)) => says(alloc, &verdict, &None, wanted),
         _ => false,
     }
+}
+
+// What shows the verdict that is certain by now, while the judge goes on.
+fn shows(alloc: Global, judge: &Judge, wanted: &str) -> bool {
+    match (judge.certain(), judge.explain()) {
+        (Some(verdict), Ok(cycle)) => says(alloc, verdict, &cycle, wanted),
+        (None, Ok(None)) => wanted.starts_with("serializable"),
+        _ => false,
+    }
+}
+
+fn is_shown(alloc: Global, parts: &[Parsed], terms: &Terms, wanted: &str) -> bool {
+    let mut judge = Judge::new(alloc, terms);
+    judge.feed_all(parts, terms.except());
+    let is_shown = shows(alloc, &judge, wanted);
+    is_shown & judge.verdict().is_ok()
 }
 
 // Labels whose blocks are no transactions, a trace, and its verdict. With a violation stand the label of the block and the
@@ -170,11 +146,13 @@ type Row = (&'static str, &'static str, &'static str);
 fn is_explained(alloc: Global, limits: &Limits, row: &Row) -> Option<bool> {
     let (labels, text, wanted) = *row;
     let parts = parts_of(alloc, text)?;
-    let except = except_of(alloc, labels)?;
+    let terms = terms_of(alloc, limits, labels, (false, true))?;
+    let in_full = terms_of(alloc, limits, labels, (true, true))?;
     Some(
-        is_told(alloc, &parts, limits, &except, wanted)
-            && is_shown(alloc, &parts, limits, &except, wanted)
-            && is_found(alloc, &parts, limits, &except, wanted),
+        is_found(alloc, &parts, &terms, wanted)
+            && is_shown(alloc, &parts, &terms, wanted)
+            && is_found(alloc, &parts, &in_full, wanted)
+            && is_shown(alloc, &parts, &in_full, wanted),
     )
 }
 

@@ -1,3 +1,4 @@
+use crate::said::{Said, TESTED, Tested, Tests, first_missaid};
 use aero_access::Clocks;
 use aero_end::end;
 use aero_engine::Spent;
@@ -277,61 +278,21 @@ fn of_many_reads_the_last_of_each_thread_counts(rt: HostRuntime) {
     assert_eq!(rt; first_untold(rt.alloc(), &IN_TURNS), None);
 }
 
-// What the tests say of a thread: whether it is in a block, whether it has made an event, and how many
-// outermost begins it has made.
-type Said = (bool, bool, u32);
-
-// A trace, and what they say of threads 0 to 2 then.
-type Tested = (&'static str, [Said; 3]);
-
 fn said_of(leads: &Leads, t: u32) -> Said {
     (leads.in_block(t), leads.acted(t), leads.begins(t))
 }
 
-fn is_said(alloc: Global, row: &Tested) -> bool {
-    let mut leads = Leads::new(alloc);
-    run(&mut leads, row.0).is_ok()
-        && [said_of(&leads, 0), said_of(&leads, 1), said_of(&leads, 2)] == row.1
-}
-
-// The first row that doesn't hold.
-fn first_missaid(alloc: Global, rows: &[Tested]) -> Option<usize> {
-    for i in 0..rows.len() {
-        if !is_said(alloc, &rows[i]) {
-            return Some(i);
-        }
+impl Tests for Leads {
+    fn is_said(alloc: Global, row: &Tested) -> bool {
+        let mut leads = Leads::new(alloc);
+        run(&mut leads, row.0).is_ok()
+            && [said_of(&leads, 0), said_of(&leads, 1), said_of(&leads, 2)] == row.1
     }
-    None
 }
-
-const TESTED: [Tested; 5] = [
-    (
-        "0|begin/0|w(0)/1|r(0)",
-        [(true, true, 1), (false, true, 0), (false, false, 0)],
-    ),
-    // A thread is answered, by an event and by an end: what the tests say stays.
-    (
-        "0|begin/0|w(0)/1|r(0)/1|r(1)/0|w(1)",
-        [(true, true, 1), (false, true, 0), (false, false, 0)],
-    ),
-    (
-        "0|begin/1|begin/1|w(1)/0|w(0)/1|r(0)/0|r(1)/0|end",
-        [(true, true, 1), (true, true, 1), (false, false, 0)],
-    ),
-    // A thread that is forked and joined has made no event.
-    (
-        "0|begin/0|fork(1)/0|join(1)/0|end",
-        [(false, true, 1), (false, false, 0), (false, false, 0)],
-    ),
-    (
-        "0|begin/0|w(0)/1|r(0)/0|end",
-        [(false, true, 1), (false, true, 0), (false, false, 0)],
-    ),
-];
 
 #[test]
 fn the_tests_answer_for_each_thread(rt: HostRuntime) {
-    assert_eq!(rt; first_missaid(rt.alloc(), &TESTED), None);
+    assert_eq!(rt; first_missaid::<Leads>(rt.alloc(), &TESTED), None);
 }
 
 // The same through clocks.

@@ -3,8 +3,9 @@
 //!
 //! A crate with tests is proved twice, with them and without, so they stand here, above all of the
 //! crates, and each is proved once. A module has the tests of the crate that it is named for, most of
-//! them as tables of texts; `serial` has those of serial orders and of who made an event, and `replaced`
-//! compares verdicts of generated traces. It has nothing for other crates.
+//! them as tables of texts; `serial` has those of serial orders and of who made an event, `said` has rows
+//! that `leads` and `end` share, and `replaced` compares verdicts of generated traces. It has nothing for
+//! other crates.
 #![tactic(auto)]
 
 #[cfg(test)]
@@ -35,6 +36,8 @@ mod opened;
 mod order;
 #[cfg(test)]
 mod replaced;
+#[cfg(test)]
+mod said;
 #[cfg(test)]
 mod serial;
 #[cfg(test)]

@@ -1,4 +1,4 @@
-use aero_model::{Counting, Except, Limits, Name, NameFault, SharedExcept};
+use aero_model::{Counting, Except, Limits, Name, NameFault, SharedExcept, Terms};
 use indexmap::IndexSet;
 use std::alloc::Global;
 use std::io;
@@ -116,6 +116,18 @@ pub(crate) fn except_of(alloc: Global, text: &str) -> Option<Except> {
         Some(labels) => Except::all_but(labels_of(alloc, labels)?),
         None => Except::new(labels_of(alloc, text)?),
     }
+}
+
+// The terms with these limits and labels, where the order and an explanation are asked for or not.
+pub(crate) fn terms_of(
+    alloc: Global,
+    limits: &Limits,
+    labels: &str,
+    asked: (bool, bool),
+) -> Option<Terms> {
+    let except = SharedExcept::new(alloc, except_of(alloc, labels)?).ok()?;
+    let (order, explain) = asked;
+    Some(Terms::new(*limits, except, order, explain))
 }
 
 // Whether a list of so many labels is made.

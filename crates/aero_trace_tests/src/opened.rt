@@ -1,8 +1,8 @@
 use crate::explained::text_of;
-use crate::model::except_of;
+use crate::model::terms_of;
 use crate::verdict::{parts_of, push_words};
 use aero_model::{Finding, Limits, OpenBlock, Verdict};
-use aero_verdict::{check_trace_in_full, explain_trace};
+use aero_verdict::judge_trace;
 use std::alloc::{AllocError, Global};
 
 // The helpers below say that a row doesn't hold where memory is refused.
@@ -57,11 +57,12 @@ type Row = (&'static str, &'static str, &'static str);
 fn is_told(alloc: Global, row: &Row) -> Option<bool> {
     let (labels, text, wanted) = *row;
     let parts = parts_of(alloc, text)?;
-    let except = except_of(alloc, labels)?;
-    let most = Limits::greatest();
-    let explained = explain_trace(alloc, &parts, &most, &except);
-    let in_full = check_trace_in_full(alloc, &parts, &most, &except);
-    Some(says(alloc, explained, wanted) && says(alloc, in_full, wanted))
+    let terms = terms_of(alloc, &Limits::greatest(), labels, (false, true))?;
+    let in_full = terms_of(alloc, &Limits::greatest(), labels, (true, true))?;
+    Some(
+        says(alloc, judge_trace(alloc, &parts, &terms), wanted)
+            && says(alloc, judge_trace(alloc, &parts, &in_full), wanted),
+    )
 }
 
 // The first row that doesn't hold.
@@ -157,8 +158,8 @@ fn told_of(alloc: Global, begins: u32, reads: u32) -> Option<Vec<OpenBlock>> {
     }
     text.push_str("+").ok()?;
     let parts = parts_of(alloc, &text)?;
-    let none = except_of(alloc, "")?;
-    match explain_trace(alloc, &parts, &Limits::greatest(), &none) {
+    let terms = terms_of(alloc, &Limits::greatest(), "", (false, true))?;
+    match judge_trace(alloc, &parts, &terms) {
         Ok(Finding::Opened(Verdict::Pending { pending, .. }, blocks)) if pending == begins => {
             Some(blocks)
         }

@@ -85,7 +85,8 @@ fn is_bare(what: What) -> bool
 
 fn deeper(event: &Numbered, t: u32, deep: u32) -> u32
     requires { deep < 1000 }
-    ensures { result ≡ (if by_thread t is_begin (Some event.now) then deep + 1 else if by_thread t is_end (Some event.now) then deep - 1 else deep) }
+    ensures { result ≡ (if by_thread t is_begin (Some event.now) then deep + 1 else if by_thread t
+        is_end (Some event.now) then deep - 1 else deep) }
 {
     if event.thread != t {
         return deep;

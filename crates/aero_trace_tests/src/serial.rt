@@ -1,11 +1,9 @@
-use crate::model::except_of;
+use crate::model::terms_of;
 use crate::verdict::{parts_of, push_words};
 use aero_grammar::Parsed;
-use aero_model::{Except, Finding, Limits, Step, Verdict};
-use aero_verdict::{
-    InOrder, Monitor, actor_at, check_trace_in_full, check_trace_in_order, feed_all, serial_order,
-};
-use std::alloc::Global;
+use aero_model::{Except, Finding, Limits, Step, Terms, Verdict};
+use aero_verdict::{Judge, actor_at, judge_trace, serial_order};
+use std::alloc::{AllocError, Global};
 
 // The helpers below say that a row doesn't hold where memory is refused.
 
@@ -84,45 +82,9 @@ fn says(alloc: Global, verdict: &Verdict, steps: &Option<Vec<Step>>, wanted: &st
     push_told(alloc, &mut words, verdict, steps) && words.as_str() == wanted
 }
 
-// Whether this is told of it with its order.
-fn is_told(
-    alloc: Global,
-    parts: &[Parsed],
-    limits: &Limits,
-    except: &Except,
-    wanted: &str,
-) -> bool {
-    match check_trace_in_order(alloc, parts, limits, except) {
-        Ok((verdict, steps)) => says(alloc, &verdict, &steps, wanted),
-        Err(_) => false,
-    }
-}
-
-// Whether a monitor of these parts tells the same at its end.
-fn is_told_at_end(
-    alloc: Global,
-    parts: &[Parsed],
-    limits: &Limits,
-    except: &Except,
-    wanted: &str,
-) -> bool {
-    let mut monitor = Monitor::<InOrder>::new(alloc, limits, except);
-    feed_all(&mut monitor, parts, except);
-    match monitor.finish_in_order() {
-        Ok((verdict, steps)) => says(alloc, &verdict, &steps, wanted),
-        Err(_) => false,
-    }
-}
-
-// Whether the same is found where violations are to be explained too, but for a cycle.
-fn is_found(
-    alloc: Global,
-    parts: &[Parsed],
-    limits: &Limits,
-    except: &Except,
-    wanted: &str,
-) -> bool {
-    match check_trace_in_full(alloc, parts, limits, except) {
+// Whether this is found of it. What explains the verdict isn't looked at.
+fn finds(alloc: Global, finding: Result<Finding, AllocError>, wanted: &str) -> bool {
+    match finding {
         Ok(Finding::Ordered(verdict, steps)) => says(alloc, &verdict, &Some(steps), wanted),
         Ok(Finding::Explained(verdict, _)) => says(alloc, &verdict, &None, wanted),
         Ok(Finding::Opened(verdict, _)) => says(alloc, &verdict, &None, wanted),
@@ -131,18 +93,25 @@ fn is_found(
     }
 }
 
+// Whether this is found of the parts at once, and by a judge at its end.
+fn is_found(alloc: Global, parts: &[Parsed], terms: &Terms, wanted: &str) -> bool {
+    let mut judge = Judge::new(alloc, terms);
+    judge.feed_all(parts, terms.except());
+    finds(alloc, judge.finish(), wanted) && finds(alloc, judge_trace(alloc, parts, terms), wanted)
+}
+
 // Labels whose blocks are no transactions, a trace, its order, and what is told of it with that.
 type Row = (&'static str, &'static str, &'static str, &'static str);
 
 fn is_in_order(alloc: Global, limits: &Limits, row: &Row) -> Option<bool> {
     let (labels, text, order, told) = *row;
     let parts = parts_of(alloc, text)?;
-    let except = except_of(alloc, labels)?;
+    let terms = terms_of(alloc, limits, labels, (true, false))?;
+    let in_full = terms_of(alloc, limits, labels, (true, true))?;
     Some(
-        has_order(alloc, &parts, limits, &except, order)
-            && is_told(alloc, &parts, limits, &except, told)
-            && is_told_at_end(alloc, &parts, limits, &except, told)
-            && is_found(alloc, &parts, limits, &except, told),
+        has_order(alloc, &parts, limits, terms.except(), order)
+            && is_found(alloc, &parts, &terms, told)
+            && is_found(alloc, &parts, &in_full, told),
     )
 }
 

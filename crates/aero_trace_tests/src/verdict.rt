@@ -1,9 +1,9 @@
-use crate::model::except_of;
+use crate::model::{except_of, terms_of};
 use aero_end::EndingClocks;
 use aero_grammar::{Parsed, parse_block};
 use aero_model::{Except, Limits, Verdict};
 use aero_verdict::engine::Engine;
-use aero_verdict::{check_trace, check_trace_by};
+use aero_verdict::{Judge, check_trace, check_trace_by};
 use std::alloc::Global;
 
 // The helpers below say that a row doesn't hold where memory is refused.
@@ -138,11 +138,41 @@ fn has_verdict(
         )
 }
 
+// Whether a judge that was asked for this besides has the verdict.
+fn has_verdict_beside(
+    alloc: Global,
+    parts: &[Parsed],
+    limits: &Limits,
+    row: (&str, &str),
+    asked: (bool, bool),
+) -> Option<bool> {
+    let (labels, wanted) = row;
+    let terms = terms_of(alloc, limits, labels, asked)?;
+    let mut judge = Judge::new(alloc, &terms);
+    judge.feed_all(parts, terms.except());
+    Some(says(alloc, judge.verdict().ok(), wanted))
+}
+
+// Whether a judge has the verdict, whatever else it was asked for.
+fn has_verdict_always(
+    alloc: Global,
+    parts: &[Parsed],
+    limits: &Limits,
+    row: (&str, &str),
+) -> Option<bool> {
+    let mut has_it = true;
+    for asked in [(false, false), (true, false), (false, true), (true, true)] {
+        has_it &= has_verdict_beside(alloc, parts, limits, row, asked)?;
+    }
+    Some(has_it)
+}
+
 fn is_judged(alloc: Global, limits: &Limits, row: (&str, &str, &str)) -> Option<bool> {
     let (labels, text, wanted) = row;
     let parts = parts_of(alloc, text)?;
     let except = except_of(alloc, labels)?;
-    Some(has_verdict(alloc, &parts, limits, &except, wanted))
+    let has_it = has_verdict(alloc, &parts, limits, &except, wanted);
+    Some(has_it && has_verdict_always(alloc, &parts, limits, (labels, wanted))?)
 }
 
 // The first row that doesn't hold.

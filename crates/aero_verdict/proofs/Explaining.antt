@@ -8,7 +8,6 @@ use Rattle.std.proofs.lemmas.List.{length-map}
 use Rattle.std.proofs.lemmas.List.Elements.{All-append, All-nil}
 use Rattle.std.proofs.lemmas.Option.{slice_get_within}
 use Rattle.aero_model.specs.declared.numbered.Numbered.{Numbered}
-use Rattle.aero_model.specs.declared.numbered.What.{What}
 use Rattle.aero_model.specs.declared.verdict.CycleStep.{CycleStep}
 use Rattle.aero_model.specs.declared.verdict.CycleTransaction.{CycleTransaction}
 use Rattle.aero_model.specs.Blocks.{Transaction, Block, transaction, blocks, IsOpen}
@@ -45,10 +44,10 @@ use Rattle.aero_verdict.specs.Explained.{has_cycle, visit_places, round_places, 
 use Rattle.aero_verdict.specs.Standing.{AreGiven}
 use Rattle.aero_verdict.specs.Parts.{KeepsAt}
 use Rattle.aero_verdict.specs.Recorded.{recorded, HasRecordedAs, HasRecorded, StandsForLeads}
-use Rattle.aero_verdict.specs.Shown.{shown}
 use Rattle.aero_verdict.specs.Monitored.{TellsFed}
 use Rattle.aero_verdict.specs.Records.{IsRecordOf, round_of, AreShown, CanBeShown, IsEventAt, IsStepAt, IsTransactionOf}
-use Rattle.aero_verdict.specs.Verdict.{Rules, counted_events, events_of, checked_trace, IsOnLine, IsViolation}
+use Rattle.aero_verdict.specs.Verdict.{counted_events, events_of, checked_trace, IsOnLine, IsViolation}
+use Rattle.aero_model.specs.Terms.{Rules}
 use Rattle.aero_verdict.proofs.Readings.{rising_within}
 use Rattle.aero_verdict.proofs.Keeping as keeping
 use Rattle.aero_verdict.proofs.Keeping.{at_line, label_is}

@@ -10,7 +10,8 @@ use Rattle.aero_model.proofs.OpenCount.{all_ended}
 use Rattle.aero_model.proofs.Telling.{serializable_where_ended}
 use Rattle.aero_grammar.specs.Reading.{Reading}
 use Rattle.aero_verdict.specs.Ordered.{is_faultless, has_order}
-use Rattle.aero_verdict.specs.Verdict.{Rules, events_of, read_trace, checked_trace, IsClean, IsVerdict}
+use Rattle.aero_verdict.specs.Verdict.{events_of, read_trace, checked_trace, IsClean, IsVerdict}
+use Rattle.aero_model.specs.Terms.{Rules}
 use Rattle.aero_verdict.proofs.Judged.{judged_well}
 use Rattle.aero_verdict.proofs.OneVerdict.{one_verdict}
 

@@ -23,7 +23,8 @@ use Rattle.aero_verdict.specs.Fed.{IsCertain, IsOpen}
 use Rattle.aero_verdict.specs.Monitored.{FedSo, certain_of, TellsFed}
 use Rattle.aero_verdict.specs.Ordered.{is_faultless}
 use Rattle.aero_verdict.specs.Parts.{greatest_number, Stands, KeepsAt, NamesAll, ComesNext, IsPartExpected, TellsPart}
-use Rattle.aero_verdict.specs.Verdict.{Rules, under, counted_events, checked_trace, IsVerdict, IsMalformed, IsFaultless}
+use Rattle.aero_verdict.specs.Verdict.{counted_events, checked_trace, IsVerdict, IsMalformed, IsFaultless}
+use Rattle.aero_model.specs.Terms.{Rules, under}
 use Rattle.aero_verdict.proofs.OneVerdict.{one_verdict}
 use Rattle.aero_verdict.proofs.Parts.{clean_here, too_many, faultless, stands_for_all, names_all, keeps_all}
 use Rattle.aero_verdict.proofs.Readings.{slice_get_behind, trace_length}

@@ -18,7 +18,8 @@ use Rattle.aero_verdict.specs.Standing.{AreGiven, HasNamedActor}
 use Rattle.aero_verdict.specs.Limited.{names_in, IsNamedThread}
 use Rattle.aero_verdict.specs.Ordered.{line_at, step_of, step_at}
 use Rattle.aero_verdict.specs.Parts.{NamesAll}
-use Rattle.aero_verdict.specs.Verdict.{Rules, counted_events, events_of}
+use Rattle.aero_verdict.specs.Verdict.{counted_events, events_of}
+use Rattle.aero_model.specs.Terms.{Rules}
 use Rattle.aero_verdict.proofs.ThreadNames.{was, was_at, in_all, at_place}
 
 -- the event that stands at a first event's place

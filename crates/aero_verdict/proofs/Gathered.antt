@@ -25,7 +25,8 @@ use Rattle.aero_verdict.specs.Limited.{IsNamedThread}
 use Rattle.aero_verdict.specs.Monitored.{TellsFed}
 use Rattle.aero_verdict.specs.Ordered.{is_faultless, has_order, AreLinesInOrder, TellsInOrder}
 use Rattle.aero_verdict.specs.Parts.{KeepsAt, NamesAll}
-use Rattle.aero_verdict.specs.Verdict.{Rules, counted_events, checked_trace, IsVerdict}
+use Rattle.aero_verdict.specs.Verdict.{counted_events, checked_trace, IsVerdict}
+use Rattle.aero_model.specs.Terms.{Rules}
 use Rattle.aero_verdict.proofs.Faultless.{well_formed_of, same_faultless, right_where_ordered, no_cycle_where_ordered, no_cycle_of}
 use Rattle.aero_verdict.proofs.FirstEvents.{StandsAt, all_stand, all_named, steps_are, lines_are}
 

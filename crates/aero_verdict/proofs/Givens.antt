@@ -5,7 +5,7 @@ use Rattle.std.proofs.lemmas.Option.{same_Some}
 use Rattle.aero_model.specs.Named.{Named}
 use Rattle.aero_engine.specs.Given.{Given}
 use Rattle.aero_verdict.specs.Standing.{IsGiven, AreGiven, KeepsFirst}
-use Rattle.aero_verdict.specs.Verdict.{Rules}
+use Rattle.aero_model.specs.Terms.{Rules}
 
 -- what stands in a list with one item more stood there, or is that item
 pub at_pushed : {X : Type 0} (xs : List X) (x : X) (i : ℕ) (y : X) → slice_get (xs ++ x ∷ []) i ≡ Some y → (slice_get xs i ≡ Some y) ⊎ ((i ≡ length xs) × (x ≡ y))

@@ -1,5 +1,5 @@
 -- What a record of the first events of a trace tells of them.
-use Rattle.std.proofs.Common.{◌≡◌, ℕ, zero, suc, ◌<◌, ◌≤◌, ◌^◌, ◌==◌, true, false, List, [], ◌∷◌, ◌-◌, length, map, take, Option, Some, None, option_map, inl, inr, refl, sym, ◌∙◌, ap, subst, arith}
+use Rattle.std.proofs.Common.{◌≡◌, ℕ, zero, suc, ◌<◌, ◌≤◌, ◌^◌, ◌==◌, true, false, List, [], ◌∷◌, length, map, take, Option, Some, None, option_map, inl, inr, refl, sym, ◌∙◌, ap, subst, arith}
 use Rattle.std.specs.Prelude.{◌≢◌, slice_get}
 use Rattle.std.proofs.lemmas.Bool.{and_parts, or_left, both_ways}
 use Rattle.std.proofs.lemmas.List.{length-map}
@@ -41,7 +41,8 @@ use Rattle.aero_verdict.specs.Limited.{names_in}
 use Rattle.aero_verdict.specs.Shown.{shown, CanShow}
 use Rattle.aero_verdict.specs.Records.{IsRecordTo, AreShown, IsEventAt, end_line, extent_of, IsTransactionOf}
 use Rattle.aero_verdict.specs.Spans.{IsEndOf}
-use Rattle.aero_verdict.specs.Verdict.{Rules, counted_events, events_of, read_trace, checked_trace, IsOnLine}
+use Rattle.aero_verdict.specs.Verdict.{counted_events, events_of, read_trace, checked_trace, IsOnLine}
+use Rattle.aero_model.specs.Terms.{Rules}
 use Rattle.aero_verdict.proofs.Judged.{judged_well}
 use Rattle.aero_verdict.proofs.Recording as recording
 use Rattle.aero_verdict.proofs.Showing.{given_shown}

@@ -32,6 +32,7 @@ pub mod BlockEvents
 pub mod FirstEvents
 pub mod Gathered
 pub mod PartOf
+pub mod Together
 pub mod Vectors
 pub mod Sweeping
 pub mod Forgetting

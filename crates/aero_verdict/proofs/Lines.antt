@@ -18,7 +18,7 @@ use Rattle.aero_verdict.specs.declared.checker.Stop.TheVariants.{Refused, Closed
 use Rattle.aero_verdict.specs.Standing.{trace_in, judged_in, KeepsFirst, StandsFor, IsNext, IsExpected, Refuses, Judged, up_to, AreNext, AreExpected, StopsIn}
 use Rattle.aero_verdict.specs.declared.known.Exemptions.{Exemptions}
 use Rattle.aero_verdict.specs.Known.{AreMarked}
-use Rattle.aero_verdict.specs.Verdict.{Rules}
+use Rattle.aero_model.specs.Terms.{Rules}
 use Rattle.aero_verdict.proofs.Steps.{take_pushed, front_and_rest}
 
 -- after the first i of these events: what was kept of those before them is kept of these too

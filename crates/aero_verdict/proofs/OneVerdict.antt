@@ -22,7 +22,8 @@ use Rattle.aero_model.proofs.Lawful.{lawful_well_formed}
 use Rattle.aero_model.proofs.Places.{in_block}
 use Rattle.aero_model.proofs.Telling.{telling_more}
 use Rattle.aero_grammar.specs.Reading.{Reading}
-use Rattle.aero_verdict.specs.Verdict.{Rules, IsVerdict, IsFaultless, IsClean, IsIllFormed, IsMalformed, IsViolation, BeginsOnLine, counted_events, events_of, read_trace, checked_trace}
+use Rattle.aero_verdict.specs.Verdict.{IsVerdict, IsFaultless, IsClean, IsIllFormed, IsMalformed, IsViolation, BeginsOnLine, counted_events, events_of, read_trace, checked_trace}
+use Rattle.aero_model.specs.Terms.{Rules}
 use Rattle.aero_verdict.proofs.Judged.{judged_well}
 use Rattle.aero_verdict.proofs.Openers.{opener_number}
 use Rattle.aero_verdict.proofs.Readings.{trace_length, read_length}

@@ -1,12 +1,14 @@
 -- The blocks that are open at the end of a trace, as a record of all its events tells them.
 use Rattle.std.proofs.Common.{◌≡◌, ◌⊎◌, ◌↔◌, ℕ, ◌+◌, ◌<◌, ◌≤◌, Bool, true, false, if◌then◌else◌, List, [], ◌∷◌, ◌++◌, length, map, take, get_or, zero, suc, Option, Some, None, option_map, inl, inr, refl, sym, ◌∙◌, ap, subst, le_refl, arith}
-use Rattle.std.specs.Prelude.{slice_get, All, IsTrue}
+use Rattle.std.specs.Prelude.{slice_get, All, IsTrue, IfOk, IfSome, Result, Ok, Err}
+use Rattle.std.specs.declared.alloc.AllocError.{AllocError}
 use Rattle.std.specs.List.{AllZip}
 use Rattle.std.specs.Option.{option_map_or}
 use Rattle.std.proofs.lemmas.Bool.{cases_eq, false≢true}
 use Rattle.std.proofs.lemmas.List.{append-nil, length-map, take_all, take-map}
 use Rattle.std.proofs.lemmas.Option.{slice_get-map, slice_get_within, slice_get-get_or, same_Some}
 use Rattle.aero_model.specs.declared.numbered.Numbered.{Numbered}
+use Rattle.aero_model.specs.declared.verdict.Finding.{Finding}
 use Rattle.aero_model.specs.declared.verdict.OpenBlock.{OpenBlock}
 use Rattle.aero_model.specs.declared.verdict.Verdict.{Verdict}
 use Rattle.aero_model.specs.declared.verdict.Verdict.TheVariants.{Serializable, Pending, Violation, Malformed, IllFormed}
@@ -15,6 +17,7 @@ use Rattle.aero_model.specs.Blocks.{is_begin, opens, transaction, HasEnded, IsOp
 use Rattle.aero_model.specs.Named.{Named}
 use Rattle.aero_model.specs.Numbering.{tables_of}
 use Rattle.aero_model.specs.Shape.{IsLawful}
+use Rattle.aero_model.specs.Verdicts.{HasOwnFault, verdict_of}
 use Rattle.aero_model.proofs.Stability.{Agree, opens_same}
 use Rattle.aero_model.proofs.Telling.{telling_more}
 use Rattle.aero_grammar.specs.Reading.{Reading, IsReading, whole_reading}
@@ -28,12 +31,14 @@ use Rattle.aero_verdict.specs.declared.checker.Checker.{Checker}
 use Rattle.aero_verdict.specs.declared.numbering.Numbering.{Numbering}
 use Rattle.aero_verdict.specs.declared.recorder.Recorder.{Recorder}
 use Rattle.aero_verdict.specs.Explained.{has_cycle}
+use Rattle.aero_verdict.specs.Finding.{HasOwnVerdict}
 use Rattle.aero_verdict.specs.Monitored.{TellsFed}
 use Rattle.aero_verdict.specs.Opened.{has_blocks, is_shown, IsOpening, AreOpenings, IsOpenBlock, AreOpenBlocks}
 use Rattle.aero_verdict.specs.Ordered.{has_order}
 use Rattle.aero_verdict.specs.Recorded.{recorded, HasRecorded, StandsForLeads}
 use Rattle.aero_verdict.specs.Records.{IsWholeRecord, IsBegunAt, AreBegunTo, IsBlockAt}
-use Rattle.aero_verdict.specs.Verdict.{Rules, counted_events, events_of, read_trace, checked_trace}
+use Rattle.aero_verdict.specs.Verdict.{counted_events, events_of, read_trace, checked_trace}
+use Rattle.aero_model.specs.Terms.{Rules}
 use Rattle.aero_verdict.proofs.Keeping as keeping
 use Rattle.aero_verdict.proofs.Keeping.{none_past, label_is, thread_is}
 use Rattle.aero_verdict.proofs.Readings.{rising_within}
@@ -331,3 +336,8 @@ no_order (Pending events blocks pending) = refl
 no_order (Violation line thread begun) = refl
 no_order (Malformed line fault) = refl
 no_order (IllFormed line fault) = refl
+
+-- a fault of the verdict that is found is the verdict's own
+pub owned_finding : (found : Result Finding AllocError) (verdict : Verdict) → HasOwnFault verdict → IfOk found (λ f. verdict_of f ≡ Some verdict) → IfOk found HasOwnVerdict
+owned_finding (Ok f) verdict own same = subst (λ o. IfSome o HasOwnFault) (sym same) own
+owned_finding (Err refused) verdict own same = tt

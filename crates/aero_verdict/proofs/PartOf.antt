@@ -10,7 +10,7 @@ use Rattle.aero_verdict.specs.declared.checker.Checker.{Checker}
 use Rattle.aero_verdict.specs.Standing.{KeepsFirst}
 use Rattle.aero_verdict.specs.Parts.{KeepsAt}
 use Rattle.aero_verdict.specs.Monitored.{TellsFed}
-use Rattle.aero_verdict.specs.Verdict.{Rules}
+use Rattle.aero_model.specs.Terms.{Rules}
 
 -- the checker with another engine
 abbrev pub with_engine : {E F : Type 0} → Checker E → F → Checker F

@@ -20,7 +20,8 @@ use Rattle.aero_verdict.specs.Standing.{StandsFor, KeepsFirst, HasNamedActor, Ca
 use Rattle.aero_verdict.specs.declared.known.Exemptions.{Exemptions}
 use Rattle.aero_verdict.specs.Known.{AreMarked}
 use Rattle.aero_verdict.specs.Parts.{AreBefore, greatest_number, Stands, KeepsAt, NamesAll, ComesNext}
-use Rattle.aero_verdict.specs.Verdict.{Rules, counted_events, events_of, read_trace, checked_trace, IsClean, IsVerdict, IsMalformed, IsFaultless}
+use Rattle.aero_verdict.specs.Verdict.{counted_events, events_of, read_trace, checked_trace, IsClean, IsVerdict, IsMalformed, IsFaultless}
+use Rattle.aero_model.specs.Terms.{Rules}
 use Rattle.aero_verdict.proofs.Readings.{after_faulty, begins_with, passed_on, rising_within, all_up_to, up_to_shorter, up_to_after, fault_told, goes_on, trace_length, start, here}
 use Rattle.aero_verdict.proofs.Stops.{verdict_at, keeps_at}
 use Rattle.aero_verdict.proofs.ThreadNames.{can_be_told}

@@ -13,7 +13,8 @@ use Rattle.aero_model.proofs.Exempt.{judged_length}
 use Rattle.aero_grammar.specs.Reading.{Reading, after_lines, followed_by, whole_reading, LinesRise, fault_within}
 use Rattle.aero_verdict.specs.Standing.{up_to, GoesOn}
 use Rattle.aero_verdict.specs.Parts.{AreBefore, greatest_number}
-use Rattle.aero_verdict.specs.Verdict.{Rules, counted_events, events_of, read_trace, checked_trace}
+use Rattle.aero_verdict.specs.Verdict.{counted_events, events_of, read_trace, checked_trace}
+use Rattle.aero_model.specs.Terms.{Rules}
 
 -- one part, and those after it
 

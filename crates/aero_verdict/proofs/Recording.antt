@@ -21,7 +21,7 @@ use Rattle.aero_engine.specs.Given.{Given}
 use Rattle.aero_verdict.specs.Standing.{names_of, marked_in, judged_in, AreGiven, IsGiven}
 use Rattle.aero_model.specs.Shape.{IsWellFormed}
 use Rattle.aero_verdict.specs.Recorded.{inner_what, recorded_what, recorded, AreJudgedAs}
-use Rattle.aero_verdict.specs.Verdict.{Rules}
+use Rattle.aero_model.specs.Terms.{Rules}
 use Rattle.aero_verdict.proofs.Steps.{judged_as}
 
 -- the operation as it is recorded, beside the one as it is judged, of a thread with so many open blocks

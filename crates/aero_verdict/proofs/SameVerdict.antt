@@ -28,7 +28,8 @@ use Rattle.aero_verdict.proofs.Zipped.{zip_as}
 use Rattle.aero_verdict.specs.Explained.{round_places, IsFirstOf, IsLastOf, IsEnd, IsExtent, IsCycleStep, IsCycleTransaction, IsExplained, IsCycleOf}
 use Rattle.aero_verdict.specs.Opened.{AreOpenings, IsOpenBlock, AreOpenBlocks}
 use Rattle.aero_verdict.specs.Ordered.{step_at, AreStepsInOrder}
-use Rattle.aero_verdict.specs.Verdict.{Rules, IsVerdict, IsViolation, IsIllFormed, IsMalformed, IsFaultless, IsClean, BeginsOnLine}
+use Rattle.aero_verdict.specs.Verdict.{IsVerdict, IsViolation, IsIllFormed, IsMalformed, IsFaultless, IsClean, BeginsOnLine}
+use Rattle.aero_model.specs.Terms.{Rules}
 
 -- one part alone
 pub one_read : (r : Reading) → whole_reading (r ∷ []) ≡ r

@@ -23,7 +23,7 @@ use Rattle.aero_engine.specs.Given.{Given}
 use Rattle.aero_verdict.specs.Standing.{names_of, AreGiven}
 use Rattle.aero_verdict.specs.Recorded.{recorded, IsLabelSaid, IsSaid}
 use Rattle.aero_verdict.specs.Shown.{bound_shown, op_shown, label_shown, target_shown, shown, HasLabelShown, HasTargetShown, CanShow}
-use Rattle.aero_verdict.specs.Verdict.{Rules}
+use Rattle.aero_model.specs.Terms.{Rules}
 use Rattle.aero_verdict.proofs.BlockEvents.{among_names}
 use Rattle.aero_verdict.proofs.Recording as recording
 use Rattle.aero_verdict.proofs.Recording.{IsReadAs}

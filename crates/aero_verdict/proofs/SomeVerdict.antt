@@ -30,7 +30,8 @@ use Rattle.aero_engine.specs.Takes.{Takes}
 use Rattle.aero_engine.proofs.EveryRun.{takes_some}
 use Rattle.aero_engine.proofs.Rules.{passed_none, passed_told, passed_told_at_end}
 use Rattle.aero_grammar.specs.Reading.{Reading}
-use Rattle.aero_verdict.specs.Verdict.{Rules, IsVerdict, IsClean, IsOnLine, counted_events, events_of, faulty_line, read_trace, checked_trace}
+use Rattle.aero_verdict.specs.Verdict.{IsVerdict, IsClean, IsOnLine, counted_events, events_of, faulty_line, read_trace, checked_trace}
+use Rattle.aero_model.specs.Terms.{Rules}
 use Rattle.aero_verdict.proofs.Judged.{judged_well}
 use Rattle.aero_verdict.proofs.Openers.{opener_number}
 use Rattle.aero_verdict.proofs.Readings.{trace_length}

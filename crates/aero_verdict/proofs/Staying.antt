@@ -39,7 +39,8 @@ use Rattle.aero_verdict.specs.Explained.{round_places, IsFirstOf, IsEnd, IsExten
 use Rattle.aero_verdict.specs.Fed.{IsCertain}
 use Rattle.aero_verdict.specs.Parts.{KeepsAt}
 use Rattle.aero_verdict.specs.Standing.{names_of, marked_in, AreGiven}
-use Rattle.aero_verdict.specs.Verdict.{Rules, counted_events, read_trace, checked_trace, HasName, IsOnLine, IsViolation, IsVerdict}
+use Rattle.aero_verdict.specs.Verdict.{counted_events, read_trace, checked_trace, HasName, IsOnLine, IsViolation, IsVerdict}
+use Rattle.aero_model.specs.Terms.{Rules}
 use Rattle.aero_verdict.proofs.Explaining.{round_within, enters_within}
 use Rattle.aero_verdict.proofs.Keeping.{none_past}
 use Rattle.aero_verdict.proofs.Readings.{begins_with, slice_get_front}

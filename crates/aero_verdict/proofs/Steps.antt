@@ -40,7 +40,7 @@ use Rattle.aero_verdict.specs.declared.blocks.Blocks.{Blocks}
 use Rattle.aero_verdict.specs.Begun.{begin_line, CountsBlock}
 use Rattle.aero_verdict.specs.Standing.{names_of, trace_in, marked_in, judged_in, LastBegins, IsGiven, KeepsFirst, Counts, StandsFor, IsNext, Refuses, Judged}
 use Rattle.aero_verdict.specs.Limited.{names_in, IsLimited, NumbersEvent, RefusesEvent}
-use Rattle.aero_verdict.specs.Verdict.{Rules}
+use Rattle.aero_model.specs.Terms.{Rules}
 use Rattle.aero_names.specs.Additions.{with_event, numbered_after}
 use Rattle.aero_verdict.proofs.Givens.{keeps_more}
 use Rattle.aero_verdict.proofs.Judged.{read_so_far}

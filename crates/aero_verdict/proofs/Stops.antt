@@ -18,7 +18,8 @@ use Rattle.aero_verdict.specs.Begun.{begin_line}
 use Rattle.aero_verdict.specs.Standing.{LastBegins, StopsIn, TellsStop}
 use Rattle.aero_verdict.specs.Limited.{names_in}
 use Rattle.aero_verdict.specs.Parts.{KeepsAt}
-use Rattle.aero_verdict.specs.Verdict.{Rules, IsVerdict, IsViolation, counted_events, events_of, read_trace, checked_trace}
+use Rattle.aero_verdict.specs.Verdict.{IsVerdict, IsViolation, counted_events, events_of, read_trace, checked_trace}
+use Rattle.aero_model.specs.Terms.{Rules}
 use Rattle.aero_verdict.proofs.Steps.{front_and_rest}
 use Rattle.aero_names.proofs.Fronts.{tables_extended}
 use Rattle.aero_verdict.proofs.Judged.{read_so_far, judged_well}

@@ -1,5 +1,5 @@
 -- What is numbered of an event, name by name.
-use Rattle.std.proofs.Common.{◌≡◌, ℕ, nat_le, List, Option, Some, None, refl, sym, ◌∙◌, ap, ap₂}
+use Rattle.std.proofs.Common.{◌≡◌, ◌⊎◌, ℕ, nat_le, List, Option, Some, None, inl, inr, refl, sym, ◌∙◌, ap, ap₂}
 use Rattle.std.proofs.lemmas.Bool.{cond-true, cond-false}
 use Rattle.aero_model.specs.declared.numbered.What.{What}
 use Rattle.aero_model.specs.declared.numbered.What.TheVariants.{Read, Write, Acquire, Release, Fork, Join, Begin, End}
@@ -8,11 +8,12 @@ use Rattle.aero_model.specs.declared.event.Op.TheVariants as op
 use Rattle.aero_model.specs.declared.verdict.ShapeFault.{ShapeFault}
 use Rattle.aero_model.specs.declared.verdict.ShapeFault.TheVariants.{TooManyThreads}
 use Rattle.aero_model.specs.Named.{Named}
-use Rattle.aero_model.specs.Numbering.{with_name, thread_target}
+use Rattle.aero_model.specs.Numbering.{Tables, with_name, thread_target}
 use Rattle.aero_model.specs.Shape.{target_limit_fault}
 use Rattle.aero_names.specs.Listing.{Listing}
+use Rattle.aero_grammar.specs.Tabled.{name_at, op_of, target_in}
 use Rattle.aero_verdict.specs.declared.numbering.Numbering.{Numbering}
-use Rattle.aero_verdict.specs.Limited.{names_in, IsLimited, NumbersTarget, RefusesTarget, NumbersEvent, RefusesEvent}
+use Rattle.aero_verdict.specs.Limited.{names_in, IsLimited, NumbersTarget, RefusesTarget, NumbersEvent, RefusesEvent, with_number}
 use Rattle.aero_names.specs.Additions.{number_after, with_actor, with_target, what_after, numbered_after}
 use Rattle.aero_verdict.specs.Naming.{NumbersName, RefusesName}
 use Rattle.aero_names.proofs.NewNames.{has_name, number_stays}
@@ -24,14 +25,14 @@ module _ (old : Numbering) (list : Listing) (target : List ℕ) (number : ℕ) w
     variable_added : (limits : Limits) → IsLimited limits old → IsLimited limits (record old { variables = list })
     variable_added limits is = record { threads = is.threads; variables = (h.within limits.names is.variables).0; locks = is.locks }
 
-    pub reads : NumbersTarget old (record old { variables = list }) op.Read (Some target) (Read number)
+    reads : NumbersTarget old (record old { variables = list }) op.Read (Some target) (Read number)
     reads = record {
       what_is = ap Read h.number_is;
       names_are = ap (λ ns. record (names_in old) { variables = ns }) h.names_are;
       within = λ limits is. (variable_added limits is, cond-false (nat_le limits.names number) _ _ (h.within limits.names is.variables).1);
     }
 
-    pub writes : NumbersTarget old (record old { variables = list }) op.Write (Some target) (Write number)
+    writes : NumbersTarget old (record old { variables = list }) op.Write (Some target) (Write number)
     writes = record {
       what_is = ap Write h.number_is;
       names_are = ap (λ ns. record (names_in old) { variables = ns }) h.names_are;
@@ -42,14 +43,14 @@ module _ (old : Numbering) (list : Listing) (target : List ℕ) (number : ℕ) w
     lock_added : (limits : Limits) → IsLimited limits old → IsLimited limits (record old { locks = list })
     lock_added limits is = record { threads = is.threads; variables = is.variables; locks = (h.within limits.names is.locks).0 }
 
-    pub acquires : NumbersTarget old (record old { locks = list }) op.Acquire (Some target) (Acquire number)
+    acquires : NumbersTarget old (record old { locks = list }) op.Acquire (Some target) (Acquire number)
     acquires = record {
       what_is = ap Acquire h.number_is;
       names_are = ap (λ ns. record (names_in old) { locks = ns }) h.names_are;
       within = λ limits is. (lock_added limits is, cond-false (nat_le limits.names number) _ _ (h.within limits.names is.locks).1);
     }
 
-    pub releases : NumbersTarget old (record old { locks = list }) op.Release (Some target) (Release number)
+    releases : NumbersTarget old (record old { locks = list }) op.Release (Some target) (Release number)
     releases = record {
       what_is = ap Release h.number_is;
       names_are = ap (λ ns. record (names_in old) { locks = ns }) h.names_are;
@@ -60,19 +61,37 @@ module _ (old : Numbering) (list : Listing) (target : List ℕ) (number : ℕ) w
     thread_added : (limits : Limits) → IsLimited limits old → IsLimited limits (record old { threads = list })
     thread_added limits is = record { threads = (h.within limits.threads is.threads).0; variables = is.variables; locks = is.locks }
 
-    pub forks : NumbersTarget old (record old { threads = list }) op.Fork (Some target) (Fork number)
+    forks : NumbersTarget old (record old { threads = list }) op.Fork (Some target) (Fork number)
     forks = record {
       what_is = ap Fork h.number_is;
       names_are = ap (λ ns. record (names_in old) { threads = ns }) h.names_are;
       within = λ limits is. (thread_added limits is, cond-false (nat_le limits.threads number) _ _ (h.within limits.threads is.threads).1);
     }
 
-    pub joins : NumbersTarget old (record old { threads = list }) op.Join (Some target) (Join number)
+    joins : NumbersTarget old (record old { threads = list }) op.Join (Some target) (Join number)
     joins = record {
       what_is = ap Join h.number_is;
       names_are = ap (λ ns. record (names_in old) { threads = ns }) h.names_are;
       within = λ limits is. (thread_added limits is, cond-false (nat_le limits.threads number) _ _ (h.within limits.threads is.threads).1);
     }
+
+-- the same of an event that comes by its target's number in its chunk
+
+module _ (old : Numbering) (list : Listing) (tables : Tables) (labels : List (List ℕ)) (what : What) (number : ℕ) where
+  pub variable_numbered : (x : ℕ) → NumbersName old.variables list (name_at tables.variables x) number → (what ≡ Read x) ⊎ (what ≡ Write x)
+      → NumbersTarget old (record old { variables = list }) (op_of what) (target_in tables labels what) (with_number what number)
+  variable_numbered x h (inl is) = rw is (reads old list (name_at tables.variables x) number h)
+  variable_numbered x h (inr is) = rw is (writes old list (name_at tables.variables x) number h)
+
+  pub lock_numbered : (l : ℕ) → NumbersName old.locks list (name_at tables.locks l) number → (what ≡ Acquire l) ⊎ (what ≡ Release l)
+      → NumbersTarget old (record old { locks = list }) (op_of what) (target_in tables labels what) (with_number what number)
+  lock_numbered l h (inl is) = rw is (acquires old list (name_at tables.locks l) number h)
+  lock_numbered l h (inr is) = rw is (releases old list (name_at tables.locks l) number h)
+
+  pub thread_numbered : (u : ℕ) → NumbersName old.threads list (name_at tables.threads u) number → (what ≡ Fork u) ⊎ (what ≡ Join u)
+      → NumbersTarget old (record old { threads = list }) (op_of what) (target_in tables labels what) (with_number what number)
+  thread_numbered u h (inl is) = rw is (forks old list (name_at tables.threads u) number h)
+  thread_numbered u h (inr is) = rw is (joins old list (name_at tables.threads u) number h)
 
 -- an operation whose target gets no number, and one without a target
 

@@ -22,7 +22,7 @@ use Rattle.aero_verdict.specs.declared.checker.Stop.{Stop}
 use Rattle.aero_verdict.specs.declared.checker.Stop.TheVariants.{Refused, Closed}
 use Rattle.aero_verdict.specs.Begun.{begin_line}
 use Rattle.aero_verdict.specs.Standing.{names_of, marked_in, judged_in, LastBegins, HasNamedActor, CanBeTold, StopsIn}
-use Rattle.aero_verdict.specs.Verdict.{Rules}
+use Rattle.aero_model.specs.Terms.{Rules}
 use Rattle.aero_verdict.proofs.BlockEvents.{thread_within}
 use Rattle.aero_verdict.proofs.Judged.{read_so_far, judged_well}
 use Rattle.aero_verdict.proofs.Openers.{opener_number}

@@ -15,7 +15,8 @@ use Rattle.aero_model.specs.Graph.{Conflicts, same_thread, write_read, read_writ
 use Rattle.aero_model.proofs.Telling.{closing_from}
 use Rattle.aero_model.proofs.Walks.{last_is}
 use Rattle.aero_grammar.specs.Reading.{reading_of}
-use Rattle.aero_verdict.specs.Verdict.{Rules, under, IsVerdict}
+use Rattle.aero_verdict.specs.Verdict.{IsVerdict}
+use Rattle.aero_model.specs.Terms.{Rules, under}
 
 abbrev greatest_limits : Limits
 greatest_limits =

@@ -12,7 +12,8 @@ use Rattle.aero_model.specs.declared.verdict.Verdict.TheVariants.{Violation}
 use Rattle.aero_model.specs.Blocks.{Block, Unary, transaction, HasEnded}
 use Rattle.aero_model.specs.Graph.{Visit, IsTelling}
 use Rattle.aero_grammar.specs.Reading.{Reading}
-use Rattle.aero_verdict.specs.Verdict.{Rules, counted_events, checked_trace, IsOnLine, IsViolation, IsVerdict}
+use Rattle.aero_verdict.specs.Verdict.{counted_events, checked_trace, IsOnLine, IsViolation, IsVerdict}
+use Rattle.aero_model.specs.Terms.{Rules}
 
 -- whether a cycle goes with the verdict: it is asked for, and there is a violation
 abbrev pub has_cycle : Bool → Verdict → Bool
@@ -100,8 +101,7 @@ abbrev pub ShowsCertain : Option Verdict → List Reading → Rules → Option C
 ShowsCertain None parts rules cycle = cycle ≡ None
 ShowsCertain (Some verdict) parts rules cycle = ShowsVerdict parts rules verdict cycle
 
--- the verdict, and a cycle exactly where it goes with that
-pub record TellsExplained (parts : List Reading) (rules : Rules) (verdict : Verdict) (cycle : Option Cycle) : Type 0 where
-  pub verdict_is : IsVerdict parts rules verdict
-  pub where_explained : is_some cycle ≡ has_cycle true verdict
-  pub cycle_is : IfSome cycle (IsCycleOf parts rules verdict)
+-- the same, if it is asked for, and else nothing
+abbrev pub ShowsIfAsked : (explain : Bool) → Option Verdict → List Reading → Rules → Option Cycle → Type 0
+ShowsIfAsked true certain parts rules cycle = ShowsCertain certain parts rules cycle
+ShowsIfAsked false certain parts rules cycle = cycle ≡ None

@@ -8,7 +8,8 @@ use Rattle.aero_model.specs.Verdicts.{HasOwnFault}
 use Rattle.aero_grammar.specs.Reading.{Reading}
 use Rattle.aero_verdict.specs.Explained.{IsCycleOf}
 use Rattle.aero_verdict.specs.Ordered.{is_faultless}
-use Rattle.aero_verdict.specs.Verdict.{Rules, IsVerdict}
+use Rattle.aero_verdict.specs.Verdict.{IsVerdict}
+use Rattle.aero_model.specs.Terms.{Rules}
 
 -- The rules, the parts that were fed, one after the other, the verdict that is certain, if one is, and whether memory was refused
 pub record Fed : Type 0 where

@@ -17,7 +17,8 @@ use Rattle.aero_verdict.specs.declared.numbering.Numbering.{Numbering}
 use Rattle.aero_verdict.specs.Standing.{KeepsFirst}
 use Rattle.aero_verdict.specs.Limited.{names_in}
 use Rattle.aero_verdict.specs.Parts.{NamesAll}
-use Rattle.aero_verdict.specs.Verdict.{Rules, counted_events, checked_trace}
+use Rattle.aero_verdict.specs.Verdict.{counted_events, checked_trace}
+use Rattle.aero_model.specs.Terms.{Rules}
 
 abbrev pub StandsForBoth : InOrder → List Numbered → Type 0
 StandsForBoth both trace = leads.StandsFor both.leads trace × orders.StandsFor both.transactions trace

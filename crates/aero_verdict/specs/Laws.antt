@@ -6,7 +6,8 @@ use Rattle.aero_model.specs.Blocks.{Transaction, Block}
 use Rattle.aero_model.specs.Cycle.{IsSerializable}
 use Rattle.aero_model.specs.Graph.{IsCycle, TwoOpen}
 use Rattle.aero_grammar.specs.Reading.{Reading}
-use Rattle.aero_verdict.specs.Verdict.{Rules, IsVerdict, IsOnLine, HasName, BeginsOnLine, checked_trace}
+use Rattle.aero_verdict.specs.Verdict.{IsVerdict, IsOnLine, HasName, BeginsOnLine, checked_trace}
+use Rattle.aero_model.specs.Terms.{Rules}
 
 -- all parts have a verdict under all rules
 abbrev pub SomeVerdict : Type 0

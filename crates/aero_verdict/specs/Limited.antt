@@ -2,6 +2,7 @@
 use Rattle.std.specs.Prelude.{◌≡◌, ◌≢◌, ◌<◌, ℕ, List, length, slice_get, Option, Some, None}
 use Rattle.aero_model.specs.declared.numbered.Numbered.{Numbered}
 use Rattle.aero_model.specs.declared.numbered.What.{What}
+use Rattle.aero_model.specs.declared.numbered.What.TheVariants.{Read, Write, Acquire, Release, Fork, Join}
 use Rattle.aero_model.specs.declared.limits.Limits.{Limits}
 use Rattle.aero_model.specs.declared.event.Op.{Op}
 use Rattle.aero_model.specs.declared.verdict.ShapeFault.{ShapeFault}
@@ -17,6 +18,16 @@ use Rattle.aero_verdict.specs.Naming.{IsWithin}
 
 abbrev pub names_in : Numbering → Tables
 names_in n = record { threads = n.threads.names; variables = n.variables.names; locks = n.locks.names }
+
+-- what an event does, where its target, if that is no label, has this number
+abbrev pub with_number : What → ℕ → What
+with_number (Read x) number = Read number
+with_number (Write x) number = Write number
+with_number (Acquire l) number = Acquire number
+with_number (Release l) number = Release number
+with_number (Fork u) number = Fork number
+with_number (Join u) number = Join number
+with_number what number = what
 
 -- there is a thread with this number, and what it is called is a name
 abbrev pub IsNamedThread : Numbering → ℕ → Type 0

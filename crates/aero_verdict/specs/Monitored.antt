@@ -9,7 +9,8 @@ use Rattle.aero_verdict.specs.declared.monitor.State.TheVariants.{Undecided, Dec
 use Rattle.aero_verdict.specs.Fed.{IsCertain, IsVerdictOn}
 use Rattle.aero_verdict.specs.Ordered.{is_faultless}
 use Rattle.aero_verdict.specs.Parts.{Stands, KeepsAt, NamesAll}
-use Rattle.aero_verdict.specs.Verdict.{Rules, checked_trace}
+use Rattle.aero_verdict.specs.Verdict.{checked_trace}
+use Rattle.aero_model.specs.Terms.{Rules}
 
 -- Nothing is wrong yet, but maybe one line too many, and the checker has admitted the parts, whatever parts follow; or the verdict is
 -- certain, and the engine keeps the events up to one that closes a cycle; or memory was refused, and nothing is known any more.

@@ -8,7 +8,8 @@ use Rattle.aero_model.specs.declared.verdict.Verdict.TheVariants.{Violation, Pen
 use Rattle.aero_model.specs.BlockCounts.{is_outer_begin}
 use Rattle.aero_model.specs.Blocks.{transaction, HasEnded}
 use Rattle.aero_grammar.specs.Reading.{Reading}
-use Rattle.aero_verdict.specs.Verdict.{Rules, counted_events, checked_trace, IsOnLine}
+use Rattle.aero_verdict.specs.Verdict.{counted_events, checked_trace, IsOnLine}
+use Rattle.aero_model.specs.Terms.{Rules}
 
 -- whether the open blocks go with the verdict: they are asked for, and there are some
 abbrev pub has_blocks : Bool → Verdict → Bool

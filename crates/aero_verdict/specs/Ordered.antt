@@ -7,7 +7,8 @@ use Rattle.aero_model.specs.declared.verdict.Verdict.TheVariants.{Serializable, 
 use Rattle.aero_model.specs.Named.{Named}
 use Rattle.aero_model.specs.Serial.{IsSerialOrder}
 use Rattle.aero_grammar.specs.Reading.{Reading}
-use Rattle.aero_verdict.specs.Verdict.{Rules, counted_events, checked_trace, IsVerdict}
+use Rattle.aero_verdict.specs.Verdict.{counted_events, checked_trace, IsVerdict}
+use Rattle.aero_model.specs.Terms.{Rules}
 
 -- whether nothing is wrong
 abbrev pub is_faultless : Verdict → Bool

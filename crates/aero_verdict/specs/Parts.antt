@@ -11,7 +11,8 @@ use Rattle.aero_verdict.specs.declared.checker.Checker.{Checker}
 use Rattle.aero_verdict.specs.declared.numbering.Numbering.{Numbering}
 use Rattle.aero_verdict.specs.Standing.{StandsFor, KeepsFirst, HasNamedActor, up_to}
 use Rattle.aero_verdict.specs.Limited.{names_in}
-use Rattle.aero_verdict.specs.Verdict.{Rules, counted_events, events_of, checked_trace, IsOnLine, IsVerdict}
+use Rattle.aero_verdict.specs.Verdict.{counted_events, events_of, checked_trace, IsOnLine, IsVerdict}
+use Rattle.aero_model.specs.Terms.{Rules}
 
 -- the parts before these have no fault, and have these events and so many lines
 pub record AreBefore (parts rest : List Reading) (events : List (ℕ × Named)) (total : ℕ) : Type 0 where

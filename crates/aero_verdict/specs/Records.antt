@@ -29,7 +29,8 @@ use Rattle.aero_verdict.specs.Monitored.{TellsFed}
 use Rattle.aero_verdict.specs.Recorded.{HasRecorded, StandsForLeads}
 use Rattle.aero_verdict.specs.Shown.{shown, CanShow}
 use Rattle.aero_verdict.specs.Spans.{IsSpanOf}
-use Rattle.aero_verdict.specs.Verdict.{Rules, counted_events, events_of, read_trace, checked_trace, IsViolation}
+use Rattle.aero_verdict.specs.Verdict.{counted_events, events_of, read_trace, checked_trace, IsViolation}
+use Rattle.aero_model.specs.Terms.{Rules}
 
 -- The first n events are recorded, and the names are theirs. They are lawful, and fewer of them have no telling cycle.
 pub record IsRecordTo (parts : List Reading) (rules : Rules) (numbering : Numbering) (recorder : Recorder) (n : ℕ) : Type 0 where

@@ -25,7 +25,7 @@ use Rattle.aero_verdict.specs.Begun.{begin_line}
 use Rattle.aero_verdict.specs.declared.known.Exemptions.{Exemptions}
 use Rattle.aero_verdict.specs.Known.{AreMarked}
 use Rattle.aero_verdict.specs.Limited.{names_in, IsLimited, IsNamedThread}
-use Rattle.aero_verdict.specs.Verdict.{Rules}
+use Rattle.aero_model.specs.Terms.{Rules}
 
 abbrev pub names_of : List (ℕ × Named) → List Named
 names_of events = map (λ e. e.1) events

@@ -25,7 +25,8 @@ pub fn actor_at(parts: &[Parsed], line: u32) -> Option<&[u8]>
 // The thread of the event at this place of the part.
 fn thread_at(part: &Parsed, place: usize) -> &[u8]
     requires { place < length part.now.events }
-    ensures { (event : Named) × (named_at part.now place ≡ Some event) × (result.now ≡ event.thread) }
+    ensures { (event : Named) × (named_at part.now place ≡ Some event) ×
+        (result.now ≡ event.thread) }
 {
     let (_, event) = part.events[place].parts();
     name_in(&part.threads, event.thread)

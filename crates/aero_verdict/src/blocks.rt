@@ -74,7 +74,9 @@ impl Blocks {
 
 // Puts the line at the thread's number.
 fn put(lines: &mut Vec<u32>, t: u32, line: u32) -> Result<(), AllocError>
-    ensures { OnOk result ((u : ℕ) → slice_index_or lines.new.items u 0 ≡ (if t == u then line else slice_index_or lines.old.items u 0)) }
+    ensures { OnOk result ((u : ℕ) →
+        slice_index_or lines.new.items u 0 ≡
+        (if t == u then line else slice_index_or lines.old.items u 0)) }
 {
     make_room(lines, t)?;
     lines[t as usize] = line;

@@ -3,7 +3,8 @@ ghost use Rattle.std.specs.Prelude.{◌≡◌, ◌≢◌, ◌-◌, ℕ, true, fa
 ghost use Rattle.aero_model.specs.Verdicts.{HasOwnFault};
 ghost use Rattle.aero_grammar.specs.Reading.{Reading, fault_within, is_own_fault};
 ghost use Rattle.aero_engine.specs.Given.{words_of};
-ghost use Rattle.aero_verdict.specs.Verdict.{Rules, under, IsVerdict, IsFaultless};
+ghost use Rattle.aero_verdict.specs.Verdict.{IsVerdict, IsFaultless};
+ghost use Rattle.aero_model.specs.Terms.{Rules, under};
 ghost use Rattle.aero_verdict.specs.Standing.{CanBeTold, TellsStop};
 ghost use Rattle.aero_verdict.specs.Ordered.{is_faultless};
 ghost use Rattle.aero_verdict.specs.Parts.{IsPartExpected, ComesNext, TellsPart};
@@ -46,7 +47,8 @@ pub fn check_trace(
     limits: &Limits,
     except: &Except,
 ) -> Result<Verdict, AllocError>
-    ensures verdict { IfOk result (λ verdict. IsVerdict parts.now (under limits.now except.now) verdict) }
+    ensures verdict { IfOk result (λ verdict. IsVerdict parts.now (under limits.now except.now)
+        verdict) }
     ensures own_fault { IfOk result HasOwnFault }
 {
     check_trace_by::<Leads>(alloc, parts, limits, except)
@@ -59,7 +61,8 @@ pub fn check_trace_by<E: Engine>(
     limits: &Limits,
     except: &Except,
 ) -> Result<Verdict, AllocError>
-    ensures verdict { IfOk result (λ verdict. IsVerdict parts.now (under limits.now except.now) verdict) }
+    ensures verdict { IfOk result (λ verdict. IsVerdict parts.now (under limits.now except.now)
+        verdict) }
     ensures own_fault { IfOk result HasOwnFault }
 {
     let mut monitor = Monitor::<E>::new(alloc, limits, except);
@@ -76,10 +79,13 @@ pub(crate) fn check_part<E: Engine>(
     limits: &Limits,
     except: &Except,
 ) -> Result<Option<Verdict>, AllocError>
-    requires { IsPartExpected (words_of E.stands_for E.keeps) (under limits.now except.now) lines checker.old part.now }
+    requires { IsPartExpected (words_of E.stands_for E.keeps) (under limits.now except.now) lines
+        checker.old part.now }
     ensures told { IfOk result (λ told. (parts : List Reading) (k : ℕ) →
-        ComesNext (words_of E.stands_for E.keeps) (under limits.now except.now) parts k lines checker.old part.now →
-        TellsPart (words_of E.stands_for E.keeps) (under limits.now except.now) parts k lines checker.new part.now told) }
+        ComesNext (words_of E.stands_for E.keeps) (under limits.now except.now) parts k lines
+        checker.old part.now →
+        TellsPart (words_of E.stands_for E.keeps) (under limits.now except.now) parts k lines
+        checker.new part.now told) }
     ensures own_fault { IfOk result (λ told. IfSome told HasOwnFault) }
     ensures wrong { IfOk result (λ told. IfSome told (λ verdict. is_faultless verdict ≡ false)) }
 {
@@ -131,7 +137,8 @@ fn stopped_at<E: Engine>(
 // The verdict where nothing is wrong.
 pub(crate) fn faultless<E: Engine>(checker: &Checker<E>) -> Verdict
     ensures verdict { (parts : List Reading) (rules : Rules) →
-        IsFaultless parts rules checker.now.shape.admitted checker.now.blocks.begun (checker.now.blocks.begun - checker.now.blocks.ended) → IsVerdict parts rules result }
+        IsFaultless parts rules checker.now.shape.admitted checker.now.blocks.begun
+        (checker.now.blocks.begun - checker.now.blocks.ended) → IsVerdict parts rules result }
     ensures own_fault { HasOwnFault result }
     ensures right { is_faultless result ≡ true }
 {
@@ -151,7 +158,8 @@ pub(crate) fn faultless<E: Engine>(checker: &Checker<E>) -> Verdict
 
 // The malformed line, where this one has a fault by itself: it, unless one before it is one too many.
 fn malformed_line(line: u32, fault: LineFault, limits: &Limits) -> (u32, LineFault)
-    ensures told { (lines : ℕ) → fault_within limits.now.lines lines (Some (line, fault)) ≡ Some result }
+    ensures told { (lines : ℕ) → fault_within limits.now.lines lines (Some (line, fault)) ≡
+        Some result }
     ensures own_fault { IsTrue (is_own_fault fault) → result.1 ≢ LineFault.Memory }
 {
     let first_too_many = limits.lines + 1;

@@ -38,7 +38,8 @@ pub(crate) struct Checker<E: Engine> {
 #[inline(always)]
 fn label_given<E: Engine>(chunk: ChunkNames<'_>, what: What) -> Option<&[u8]>
     requires { HasLabel chunk.labels.now what }
-    ensures { IsLabelGiven E.ASKS_LABELS (option_copied result) (label_of (op_of what) (target_in (tables_in chunk.entry) chunk.entry.labels.now what)) }
+    ensures { IsLabelGiven E.ASKS_LABELS (option_copied result)
+        (label_of (op_of what) (target_in (tables_in chunk.entry) chunk.entry.labels.now what)) }
 {
     if E::ASKS_LABELS {
         return chunk.label(what);
@@ -57,13 +58,14 @@ impl<E: Engine> Checker<E> {
     ghost use Rattle.aero_verdict.specs.Standing.{StandsFor, IsNext, IsExpected, Refuses, Judged, up_to, AreNext, AreExpected, StopsIn};
     ghost use Rattle.aero_grammar.specs.Tabled.{named_in, lines_in};
     ghost use Rattle.aero_verdict.specs.Known.{tables_in, Knows, is_told_exempt, HasLabel};
-    ghost use Rattle.aero_verdict.specs.Verdict.{Rules, under};
+    ghost use Rattle.aero_model.specs.Terms.{Rules, under};
     ghost use Rattle.aero_verdict.specs.Limited.{names_in, IsNamedThread, HasLongName};
 
     // No event was admitted yet.
     pub(crate) fn new(alloc: Global, limits: &Limits) -> Checker<E>
         ensures none { result.shape.admitted ≡ 0 }
-        ensures kept { (labels : Listed) (events : List (ℕ × Named)) → StandsFor (words_of E.stands_for E.keeps) (under limits.now labels) result events }
+        ensures kept { (labels : Listed) (events : List (ℕ × Named)) →
+            StandsFor (words_of E.stands_for E.keeps) (under limits.now labels) result events }
     {
         Checker {
             numbering: Numbering::new(alloc, limits),
@@ -125,9 +127,12 @@ impl<E: Engine> Checker<E> {
     // bytes. An error says that memory was refused to a longer name.
     pub(crate) fn thread_name(&self, alloc: Global, t: u32) -> Result<Name, AllocError>
         requires { IsNamedThread self.now.numbering t }
-        ensures name { IfOk result (λ name. slice_get (names_in self.now.numbering).threads t ≡ Some name) }
+        ensures name { IfOk result (λ name. slice_get (names_in self.now.numbering).threads t ≡
+            Some name) }
         ensures long { OnErr result (HasLongName self.now.numbering t) }
-        ensures short { (name : List ℕ) → slice_get (names_in self.now.numbering).threads t ≡ Some name → IsName name → length name ≤ most_inline_bytes → IsOk result }
+        ensures short { (name : List ℕ) →
+            slice_get (names_in self.now.numbering).threads t ≡ Some name → IsName name →
+            length name ≤ most_inline_bytes → IsOk result }
     {
         self.numbering.thread_name(alloc, t)
     }
@@ -150,16 +155,23 @@ impl<E: Engine> Checker<E> {
         line: u32,
         event: Numbered,
     ) -> Result<Option<u32>, ShapeFault>
-        requires next { IsExpected (words_of E.stands_for E.keeps) self.old (line, named_in (tables_in chunk) chunk.labels.now event) (is_told_exempt chunk.exempt.now event.what) }
+        requires next { IsExpected (words_of E.stands_for E.keeps) self.old
+            (line, named_in (tables_in chunk) chunk.labels.now event)
+            (is_told_exempt chunk.exempt.now event.what) }
         requires known { Knows self.old.numbering (tables_in chunk) known.old }
         requires labelled { HasLabel chunk.labels.now event.what }
         requires named { IsEvent (named_in (tables_in chunk) chunk.labels.now event) }
         ensures counted { OnOk result (self.new.shape.admitted ≡ self.old.shape.admitted + 1) }
         ensures judged { IfOk result (λ told. (rules : Rules) (events : List (ℕ × Named)) →
-            IsNext (words_of E.stands_for E.keeps) rules self.old events (line, named_in (tables_in chunk.entry) chunk.entry.labels.now event) (is_told_exempt chunk.entry.exempt.now event.what) →
-            Judged (words_of E.stands_for E.keeps) rules self.new events self.old.shape.admitted told) }
+            IsNext (words_of E.stands_for E.keeps) rules self.old events
+            (line, named_in (tables_in chunk.entry) chunk.entry.labels.now event)
+            (is_told_exempt chunk.entry.exempt.now event.what) →
+            Judged (words_of E.stands_for E.keeps) rules self.new events self.old.shape.admitted
+            told) }
         ensures refused { IfErr result (λ fault. (rules : Rules) (events : List (ℕ × Named)) →
-            IsNext (words_of E.stands_for E.keeps) rules self.old events (line, named_in (tables_in chunk.entry) chunk.entry.labels.now event) (is_told_exempt chunk.entry.exempt.now event.what) →
+            IsNext (words_of E.stands_for E.keeps) rules self.old events
+            (line, named_in (tables_in chunk.entry) chunk.entry.labels.now event)
+            (is_told_exempt chunk.entry.exempt.now event.what) →
             Refuses rules self.old events fault) }
         ensures known { OnOk result (Knows self.new.numbering (tables_in chunk.entry) known.new) }
     {
@@ -186,16 +198,27 @@ impl<E: Engine> Checker<E> {
         before: u32,
         most: u32,
     ) -> Result<(), (u32, Stop)>
-        requires next { AreExpected (words_of E.stands_for E.keeps) self.old chunk.labels.now chunk.exempt.now before (up_to most (lines_in (tables_in chunk) chunk.labels.now events.now)) }
+        requires next { AreExpected (words_of E.stands_for E.keeps) self.old chunk.labels.now
+            chunk.exempt.now before (up_to most
+            (lines_in (tables_in chunk) chunk.labels.now events.now)) }
         requires labelled { All (λ e. HasLabel chunk.labels.now e.1.what) events.now }
-        requires named { All (λ e. IsEvent (named_in (tables_in chunk) chunk.labels.now e.1)) events.now }
+        requires named { All (λ e. IsEvent (named_in (tables_in chunk) chunk.labels.now e.1))
+            events.now }
         requires lines { before + most < 2 ^ 32 }
-        ensures counted { OnOk result (self.new.shape.admitted ≡ self.old.shape.admitted + length (up_to most (lines_in (tables_in chunk.entry) chunk.entry.labels.now events.now))) }
+        ensures counted { OnOk result (self.new.shape.admitted ≡ self.old.shape.admitted + length
+            (up_to most (lines_in (tables_in chunk.entry) chunk.entry.labels.now events.now))) }
         ensures kept { OnOk result ((rules : Rules) (all : List (ℕ × Named)) →
-            AreNext (words_of E.stands_for E.keeps) rules self.old all chunk.entry.labels.now chunk.entry.exempt.now before (up_to most (lines_in (tables_in chunk.entry) chunk.entry.labels.now events.now)) → StandsFor (words_of E.stands_for E.keeps) rules self.new all) }
+            AreNext (words_of E.stands_for E.keeps) rules self.old all chunk.entry.labels.now
+            chunk.entry.exempt.now before (up_to most
+            (lines_in (tables_in chunk.entry) chunk.entry.labels.now events.now)) →
+            StandsFor (words_of E.stands_for E.keeps) rules self.new all) }
         ensures stopped { IfErr result (λ stopped. (rules : Rules) (all : List (ℕ × Named)) →
-            AreNext (words_of E.stands_for E.keeps) rules self.old all chunk.entry.labels.now chunk.entry.exempt.now before (up_to most (lines_in (tables_in chunk.entry) chunk.entry.labels.now events.now)) →
-            StopsIn (words_of E.stands_for E.keeps) rules self.new all self.old.shape.admitted before (up_to most (lines_in (tables_in chunk.entry) chunk.entry.labels.now events.now)) stopped.0 stopped.1) }
+            AreNext (words_of E.stands_for E.keeps) rules self.old all chunk.entry.labels.now
+            chunk.entry.exempt.now before (up_to most
+            (lines_in (tables_in chunk.entry) chunk.entry.labels.now events.now)) →
+            StopsIn (words_of E.stands_for E.keeps) rules self.new all self.old.shape.admitted
+            before (up_to most (lines_in (tables_in chunk.entry) chunk.entry.labels.now events.now))
+            stopped.0 stopped.1) }
     {
         let mut known = Known::new(alloc);
         for event in events {

@@ -2,74 +2,28 @@
 ghost use Rattle.std.specs.Prelude.{◌≡◌, ◌++◌, ◌-◌, ◌<◌, ◌^◌, ℕ, List, All, Some, length, slice_get, flat_map, IfOk, OnOk};
 ghost use Rattle.std.specs.List.{AllZip};
 ghost use Rattle.aero_grammar.specs.Reading.{Reading};
-ghost use Rattle.aero_model.specs.Verdicts.{HasOwnFault};
 ghost use Rattle.aero_witness.specs.Parts.{AreOf};
 ghost use Rattle.aero_witness.specs.Telling.{visit_of, visits_of};
-ghost use Rattle.aero_verdict.specs.Explained.{TellsExplained, ShowsVerdict, visit_places, IsExplained};
+ghost use Rattle.aero_verdict.specs.Explained.{ShowsVerdict, visit_places, IsExplained};
 ghost use Rattle.aero_verdict.specs.Records.{IsJudged, IsRecord, IsRecordOf, AreShown, CanBeShown, IsEventAt, IsStepAt, IsTransactionAt, IsTransactionOf, round_of, end_line, extent_of};
-ghost use Rattle.aero_verdict.specs.Verdict.{Rules, under};
+ghost use Rattle.aero_model.specs.Terms.{Rules};
 
-use crate::monitor::{Monitor, State, feed_all};
+use crate::monitor::{Monitor, State};
 use crate::numbering::Numbering;
 use crate::recorder::Recorder;
 use crate::shown::event_shown;
 use crate::spans::{Span, spans_of};
-use aero_grammar::Parsed;
-use aero_model::{
-    Cycle, CycleStep, CycleTransaction, Event, Except, Extent, Limits, Name, Verdict, What,
-};
+use aero_model::{Cycle, CycleStep, CycleTransaction, Event, Extent, Name, Verdict, What};
 use aero_witness::{Shortest, Visit, shortest_of};
 use std::alloc::{AllocError, Global};
 
-/// The verdict on the trace that the parts hold, as `check_trace` tells it. Where it is a `Violation`, the label of
-/// the block comes with it that the verdict names, if it has one, and the events of a telling cycle that begins there,
-/// in the order in which it is gone round: from the one by which the block is left to the one by which it is entered
-/// again. None that begins there goes through fewer transactions. These come too, in the same order, and the event that
-/// closes the cycle. The events are gathered for it while they are judged, in 28 bytes each, until one closes a cycle,
-/// and the labels of their begins. Each time when there are twice as many as before, those are forgotten to which no open
-/// block leads.
-///
-/// An `AllocError` says that memory was refused.
-pub fn check_trace_explained(
-    alloc: Global,
-    parts: &[Parsed],
-    limits: &Limits,
-    except: &Except,
-) -> Result<(Verdict, Option<Cycle>), AllocError>
-    ensures told { IfOk result (λ told. TellsExplained parts.now (under limits.now except.now) told.0 told.1) }
-    ensures own_fault { IfOk result (λ told. HasOwnFault told.0) }
-{
-    let mut monitor = Monitor::<Recorder>::new(alloc, limits, except);
-    feed_all(&mut monitor, parts, except);
-    monitor.finish_explained()
-}
-
 impl Monitor<Recorder> {
     ghost use Rattle.std.specs.Prelude.{IfOk};
-    ghost use Rattle.aero_model.specs.Verdicts.{HasOwnFault};
-    ghost use Rattle.aero_verdict.specs.Explained.{ShowsCertain, TellsExplained};
+    ghost use Rattle.aero_verdict.specs.Explained.{ShowsCertain};
 
-    /// The verdict on exactly the parts that were fed. Where it is a `Violation`, what shows it comes with it, though
-    /// no part was kept: the label of the block that the verdict names, the events and the transactions of a telling
-    /// cycle, and the event that closes it.
-    ///
-    /// An `AllocError` says that memory was refused.
-    pub fn finish_explained(self) -> Result<(Verdict, Option<Cycle>), AllocError>
-        ensures told { IfOk result (λ told. TellsExplained self.parts self.rules told.0 told.1) }
-        ensures own_fault { IfOk result (λ told. HasOwnFault told.0) }
-    {
-        let alloc = self.alloc;
-        let (verdict, checker) = self.into_verdict();
-        let verdict = verdict?;
-        let cycle = cycle_in(alloc, checker.names(), checker.engine(), &verdict)?;
-        Ok((verdict, cycle))
-    }
-
-    /// What shows the verdict that is certain by now, as `finish_explained` tells it, whatever parts come: `None` where
-    /// no verdict is certain, or one that is no `Violation`. It takes as long as there are events, each time.
-    ///
-    /// An `AllocError` says that memory was refused. The monitor goes on as before.
-    pub fn explain(&self) -> Result<Option<Cycle>, AllocError>
+    // What shows the verdict that is certain by now, whatever parts come: `None` if no verdict is certain, or one that is
+    // no `Violation`. An `AllocError` says that memory was refused. The monitor goes on as before.
+    pub(crate) fn explain(&self) -> Result<Option<Cycle>, AllocError>
         ensures { IfOk result (ShowsCertain self.now.certain self.now.parts self.now.rules) }
     {
         match &self.state {
@@ -91,8 +45,11 @@ pub(crate) fn cycle_in(
     recorder: &Recorder,
     verdict: &Verdict,
 ) -> Result<Option<Cycle>, AllocError>
-    requires { (parts : List Reading) × (rules : Rules) × IsJudged parts rules names.now recorder.now verdict.now }
-    ensures { (parts : List Reading) (rules : Rules) → IsJudged parts rules names.now recorder.now verdict.now → IfOk result (ShowsVerdict parts rules verdict.now) }
+    requires { (parts : List Reading) × (rules : Rules) ×
+        IsJudged parts rules names.now recorder.now verdict.now }
+    ensures { (parts : List Reading) (rules : Rules) →
+        IsJudged parts rules names.now recorder.now verdict.now →
+        IfOk result (ShowsVerdict parts rules verdict.now) }
 {
     let Verdict::Violation { begun, .. } = verdict else {
         return Ok(None);
@@ -109,7 +66,9 @@ fn cycle_of(
     begun: u32,
 ) -> Result<Cycle, AllocError>
     requires { IsRecord names.now recorder.now begun }
-    ensures { (parts : List Reading) (rules : Rules) (line : ℕ) (thread : List ℕ) → IsRecordOf parts rules names.now recorder.now line thread begun → IfOk result (IsExplained parts rules line thread begun) }
+    ensures { (parts : List Reading) (rules : Rules) (line : ℕ) (thread : List ℕ) →
+        IsRecordOf parts rules names.now recorder.now line thread begun →
+        IfOk result (IsExplained parts rules line thread begun) }
 {
     let begin = place_of(&recorder.lines, begun);
     let shortest = shortest_of(alloc, &recorder.events, begin)?;
@@ -156,7 +115,8 @@ fn round_of(alloc: Global, visits: &[Visit]) -> Result<Vec<u32>, AllocError>
 }
 
 fn append_places(places: &mut Vec<u32>, visits: &[Visit]) -> Result<(), AllocError>
-    ensures { OnOk result (places.new.items ≡ places.old.items ++ flat_map visit_places (visits_of visits.now)) }
+    ensures { OnOk result (places.new.items ≡ places.old.items ++
+        flat_map visit_places (visits_of visits.now)) }
 {
     for visit in visits {
         append_visit(places, *visit)?;
@@ -184,7 +144,8 @@ fn steps_at(
 ) -> Result<Vec<CycleStep>, AllocError>
     requires shown { CanBeShown names.now recorder.now firsts.now }
     requires within { All (λ place. place < length recorder.now.events.items) places.now }
-    ensures { IfOk result (λ steps. AllZip (IsStepAt names.now recorder.now firsts.now) places.now steps.items) }
+    ensures { IfOk result (λ steps. AllZip (IsStepAt names.now recorder.now firsts.now) places.now
+        steps.items) }
 {
     let mut steps = Vec::with_capacity(alloc, places.len())?;
     for place in places {
@@ -221,8 +182,10 @@ fn transactions_of(
     requires few { length recorder.now.events.items < 2 ^ 32 }
     requires shown { AreShown names.now recorder.now }
     requires of { AreOf recorder.now.events.items shortest.now.transactions }
-    requires within { All (λ visit. visit.enters < length recorder.now.events.items) shortest.now.visits.items }
-    ensures { IfOk result (λ told. AllZip (IsTransactionOf names.now recorder.now) shortest.now.visits.items told.items) }
+    requires within { All (λ visit. visit.enters < length recorder.now.events.items)
+        shortest.now.visits.items }
+    ensures { IfOk result (λ told. AllZip (IsTransactionOf names.now recorder.now)
+        shortest.now.visits.items told.items) }
 {
     let spans = spans_of(
         alloc,
@@ -241,7 +204,8 @@ fn transactions_at(
 ) -> Result<Vec<CycleTransaction>, AllocError>
     requires shown { AreShown names.now recorder.now }
     requires within { All (λ span. span.first < length recorder.now.events.items) spans.now }
-    ensures { IfOk result (λ told. AllZip (IsTransactionAt names.now recorder.now) spans.now told.items) }
+    ensures { IfOk result (λ told. AllZip (IsTransactionAt names.now recorder.now) spans.now
+        told.items) }
 {
     let mut told = Vec::with_capacity(alloc, spans.len())?;
     for span in spans {

@@ -1,24 +1,25 @@
 //! First places as an engine that keeps both what a serial order is made of and what shows a cycle.
-ghost use Rattle.std.specs.Prelude.{◌≡◌, ◌++◌, ◌∷◌, [], ℕ, List, length, true, option_map, option_copied, Option, IfOk, OnOk};
+ghost use Rattle.std.specs.Prelude.{◌≡◌, ◌++◌, ◌∷◌, [], ℕ, List, length, true, Some, option_map, option_copied, Option, IfOk, OnOk};
 ghost use Rattle.aero_grammar.specs.Reading.{Reading};
 ghost use Rattle.aero_model.specs.declared.numbered.Numbered.{Numbered};
 ghost use Rattle.aero_model.specs.Exempt.{IsJudgedAs};
 ghost use Rattle.aero_engine.specs.Given.{Given};
 ghost use Rattle.aero_engine.specs.Judging.{IsAdmitted, ComesAfter, Tells};
-ghost use Rattle.aero_verdict.specs.Finding.{IsTraceFinding, on};
+ghost use Rattle.aero_verdict.specs.Finding.{IsTraceFinding};
+ghost use Rattle.aero_model.specs.Terms.{on, Rules};
+ghost use Rattle.aero_model.specs.Verdicts.{verdict_of};
 ghost use Rattle.aero_verdict.specs.InFull.{StandsForFull, KeepsInFull};
 ghost use Rattle.aero_verdict.specs.Ordered.{TellsInOrder};
 ghost use Rattle.aero_verdict.specs.Records.{IsJudged};
-ghost use Rattle.aero_verdict.specs.Verdict.{Rules, under};
 
-use crate::monitor::{Monitor, feed_all};
+use crate::explained::cycle_in;
+use crate::monitor::{Monitor, State};
 use crate::numbering::Numbering;
 use crate::opened::finding_shown;
 use crate::recorder::Recorder;
 use crate::serial::{firsts_where, is_ordered, steps_told};
 use aero_engine::{Engine, Spent};
-use aero_grammar::Parsed;
-use aero_model::{Except, Finding, Limits, Numbered, Step, Verdict};
+use aero_model::{Cycle, Finding, Numbered, Step, Verdict};
 use aero_order::Transactions;
 use aero_shape::Admitted;
 use std::alloc::{AllocError, Global};
@@ -69,9 +70,13 @@ fn judge(
     label: Option<&[u8]>,
 ) -> Result<Option<u32>, Spent>
     requires { IsAdmitted (StandsForFull full.old) event.now admitted }
-    ensures told { (h : List Numbered) (judged : Numbered) → IsJudgedAs event.now judged → ComesAfter (StandsForFull full.old) h judged admitted →
+    ensures told { (h : List Numbered) (judged : Numbered) → IsJudgedAs event.now judged →
+        ComesAfter (StandsForFull full.old) h judged admitted →
         IfOk result (Tells (StandsForFull full.new) (h ++ judged ∷ []) (length h)) }
-    ensures kept { OnOk result ((given : List Given) (named : Option (List ℕ)) → option_copied label.entry ≡ named → KeepsInFull full.old given → KeepsInFull full.new (given ++ record { line = line; event = event.now; admitted = admitted; label = named } ∷ [])) }
+    ensures kept { OnOk result ((given : List Given) (named : Option (List ℕ)) →
+        option_copied label.entry ≡ named → KeepsInFull full.old given →
+        KeepsInFull full.new (given ++
+        record { line = line; event = event.now; admitted = admitted; label = named } ∷ [])) }
 {
     let inside = full.recorder.in_block(event.thread);
     let told = full.recorder.judge(line, event, admitted, label)?;
@@ -79,35 +84,33 @@ fn judge(
     Ok(told)
 }
 
-/// What is found of the trace that the parts hold: the verdict, as `check_trace` tells it, with the serial order where it
-/// is `Serializable`, as `check_trace_in_order` gives it, and with what shows it where it is a `Violation` or `Pending`,
-/// as `explain_trace` does. Each event is judged once.
-///
-/// An `AllocError` says that memory was refused.
-pub fn check_trace_in_full(
-    alloc: Global,
-    parts: &[Parsed],
-    limits: &Limits,
-    except: &Except,
-) -> Result<Finding, AllocError>
-    ensures { IfOk result (IsTraceFinding parts.now (on (under limits.now except.now) true true)) }
-{
-    let mut monitor = Monitor::<InFull>::new(alloc, limits, except);
-    feed_all(&mut monitor, parts, except);
-    monitor.finish_in_full()
-}
-
 impl Monitor<InFull> {
     ghost use Rattle.std.specs.Prelude.{true, IfOk};
-    ghost use Rattle.aero_verdict.specs.Finding.{IsTraceFinding, on};
+    ghost use Rattle.aero_verdict.specs.Explained.{ShowsCertain};
+    ghost use Rattle.aero_verdict.specs.Finding.{HasOwnVerdict, IsTraceFinding};
+    ghost use Rattle.aero_model.specs.Terms.{on};
 
-    /// What is found of exactly the parts that were fed, though none was kept: the verdict, with the serial order where
-    /// it is `Serializable`, with a telling cycle where it is a `Violation`, and with the first 64 open blocks where it is
-    /// `Pending`.
-    ///
-    /// An `AllocError` says that memory was refused.
-    pub fn finish_in_full(self) -> Result<Finding, AllocError>
-        ensures { IfOk result (IsTraceFinding self.parts (on self.rules true true)) }
+    // What shows the verdict that is certain by now, as a monitor of its record shows it.
+    pub(crate) fn explain(&self) -> Result<Option<Cycle>, AllocError>
+        ensures { IfOk result (ShowsCertain self.now.certain self.now.parts self.now.rules) }
+    {
+        match &self.state {
+            State::Decided(verdict) => cycle_in(
+                self.alloc,
+                self.checker.names(),
+                self.checker.engine().record(),
+                verdict,
+            ),
+            State::Undecided | State::Spent => Ok(None),
+        }
+    }
+
+    // What is found of exactly the parts that were fed: the verdict, with the serial order if it is `Serializable`, with a
+    // telling cycle if it is a `Violation`, and with the first 64 open blocks if it is `Pending`. An `AllocError` says that
+    // memory was refused.
+    pub(crate) fn finish_in_full(self) -> Result<Finding, AllocError>
+        ensures finding { IfOk result (IsTraceFinding self.parts (on self.rules true true)) }
+        ensures own_fault { IfOk result HasOwnVerdict }
     {
         let alloc = self.alloc;
         let (verdict, checker) = self.into_verdict();
@@ -122,6 +125,12 @@ impl Monitor<InFull> {
 
 impl InFull {
     ghost use Rattle.std.specs.Prelude.{◌≡◌};
+
+    fn record(&self) -> &Recorder
+        ensures { result.now ≡ self.now.recorder }
+    {
+        &self.recorder
+    }
 
     // The record, and the transactions of the events so far.
     fn into_parts(self) -> (Recorder, Transactions)
@@ -144,9 +153,13 @@ fn finding_of(
     verdict: Verdict,
     steps: Option<Vec<Step>>,
 ) -> Result<Finding, AllocError>
-    requires { (parts : List Reading) × (rules : Rules) × IsJudged parts rules names.now recorder.now verdict }
-    ensures { (parts : List Reading) (rules : Rules) → IsJudged parts rules names.now recorder.now verdict → TellsInOrder parts rules verdict (option_map (λ steps. steps.items) steps) →
+    requires { (parts : List Reading) × (rules : Rules) ×
+        IsJudged parts rules names.now recorder.now verdict }
+    ensures finding { (parts : List Reading) (rules : Rules) →
+        IsJudged parts rules names.now recorder.now verdict →
+        TellsInOrder parts rules verdict (option_map (λ steps. steps.items) steps) →
         IfOk result (IsTraceFinding parts (on rules true true)) }
+    ensures same { IfOk result (λ finding. verdict_of finding ≡ Some verdict) }
 {
     match steps {
         Some(steps) => Ok(Finding::Ordered(verdict, steps)),

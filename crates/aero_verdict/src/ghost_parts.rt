@@ -31,7 +31,8 @@ impl GhostParts {
     // The same labels, and one part more.
     #[inline(always)]
     pub(crate) fn with(_before: &GhostParts, _part: &Parsed) -> GhostParts
-        ensures { (result.labels ≡ _before.now.labels) × (result.parts ≡ _before.now.parts ++ _part.now ∷ []) }
+        ensures { (result.labels ≡ _before.now.labels) ×
+            (result.parts ≡ _before.now.parts ++ _part.now ∷ []) }
     {
         GhostParts {}
     }

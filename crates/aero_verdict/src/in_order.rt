@@ -73,8 +73,17 @@ fn judge(
     admitted: Admitted,
 ) -> Result<Option<u32>, Spent>
     requires { IsAdmitted (StandsForBoth both.old) event.now admitted }
-    ensures told { (h : List Numbered) (judged : Numbered) → IsJudgedAs event.now judged → ComesAfter (StandsForBoth both.old) h judged admitted → IfOk result (Tells (StandsForBoth both.new) (h ++ judged ∷ []) (length h)) }
-    ensures kept { OnOk result ((given : List Given) (label : Option (List ℕ)) → KeepsInOrder both.old given → KeepsInOrder both.new (given ++ record { line = line; event = event.now; admitted = admitted; label = label } ∷ [])) }
+    ensures told { (h : List Numbered) (judged : Numbered) → IsJudgedAs event.now judged →
+        ComesAfter (StandsForBoth both.old) h judged admitted →
+        IfOk result (Tells (StandsForBoth both.new) (h ++ judged ∷ []) (length h)) }
+    ensures kept { OnOk result ((given : List Given) (label : Option (List ℕ)) →
+        KeepsInOrder both.old given → KeepsInOrder both.new
+        (given ++ record {
+          line = line;
+          event = event.now;
+          admitted = admitted;
+          label = label;
+        } ∷ [])) }
 {
     let inside = both.leads.in_block(event.thread);
     let told = by_kind::judge(&mut both.leads, event, admitted)?;

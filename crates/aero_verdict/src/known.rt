@@ -49,7 +49,8 @@ impl<'a> ChunkNames<'a> {
     #[inline(always)]
     pub(crate) fn label(self, what: What) -> Option<&'a [u8]>
         requires { HasLabel self.labels.now what }
-        ensures { option_copied result ≡ label_of (op_of what) (target_in (tables_in self.entry) self.entry.labels.now what) }
+        ensures { option_copied result ≡
+            label_of (op_of what) (target_in (tables_in self.entry) self.entry.labels.now what) }
     {
         match what {
             What::Begin(Some(label)) => self.labels.name(label),
@@ -75,7 +76,8 @@ pub(crate) fn told_exemptions(
 
 // Of each of the labels whether it is that of blocks that are no transactions.
 fn exempt_labels(alloc: Global, labels: &NameList, except: &Except) -> Result<Vec<bool>, AllocError>
-    ensures { IfOk result (λ exempt. exempt.items ≡ map (λ label. leaves_out except.now (Some label)) labels.now) }
+    ensures { IfOk result (λ exempt. exempt.items ≡
+        map (λ label. leaves_out except.now (Some label)) labels.now) }
 {
     let mut exempt = Vec::new(alloc);
     for n in 0..labels.len() {
@@ -131,7 +133,8 @@ pub(crate) fn number_known(
     full: ShapeFault,
 ) -> Result<u32, ShapeFault>
     requires { AreKnown names.old.names chunk.now known.old.items }
-    ensures ok { IfOk result (λ number. NumbersName names.old names.new (name_at chunk.now n) number) }
+    ensures ok { IfOk result (λ number. NumbersName names.old names.new (name_at chunk.now n)
+        number) }
     ensures err { IfErr result (λ fault. RefusesName names.old (name_at chunk.now n) full fault) }
     ensures known { OnOk result (AreKnown names.new.names chunk.now known.new.items) }
 {
@@ -150,7 +153,8 @@ fn number_first(
     full: ShapeFault,
 ) -> Result<u32, ShapeFault>
     requires { AreKnown names.old.names chunk.now known.old.items }
-    ensures ok { IfOk result (λ number. NumbersName names.old names.new (name_at chunk.now n) number) }
+    ensures ok { IfOk result (λ number. NumbersName names.old names.new (name_at chunk.now n)
+        number) }
     ensures err { IfErr result (λ fault. RefusesName names.old (name_at chunk.now n) full fault) }
     ensures known { OnOk result (AreKnown names.new.names chunk.now known.new.items) }
 {
@@ -169,7 +173,8 @@ fn number_first(
 
 // Puts the number behind the others, where it is that of the next name.
 fn note(known: &mut Vec<u32>, n: u32, number: u32) -> Result<(), AllocError>
-    ensures { OnOk result (known.new.items ≡ (if length known.old.items == n then known.old.items ++ number ∷ [] else known.old.items)) }
+    ensures { OnOk result (known.new.items ≡
+        (if length known.old.items == n then known.old.items ++ number ∷ [] else known.old.items)) }
 {
     if known.len() == n as usize {
         known.push(number)?;

@@ -29,33 +29,26 @@
 //! - `certain` gives that verdict, if there is one: `same`, `certain`.
 //! - `finish` gives the verdict on exactly the parts that were fed: `verdict`, `own_fault`. It refuses only a monitor
 //!   that is spent, as `feed` leaves it where memory was refused: `spent` of both.
-//! - `check_trace`, `check_trace_by`, `check_trace_in_order` and `serial_order` feed their parts to a monitor:
-//!   `feed_all`.
-//! - There is a serial order exactly where the verdict is `Serializable` or `Pending` and the graph has no cycle. It is
-//!   told by the lines of first events: `serial_order`, `exact`, `serializable`, `lines`.
-//! - A monitor of `InOrder` gives at its end the verdict on what it was fed, and exactly where it is `Serializable` the
-//!   transactions in the serial order, though no part was kept. Each is told by the line and the thread of its first
-//!   event: `Monitor::finish_in_order`, `told`, `own_fault`. `check_trace_in_order` gives the same of parts at once.
-//! - A monitor of `Recorder` gives at its end the verdict on what it was fed, and exactly where it is a violation the label
-//!   of the block that it names and the events of a telling cycle, though no part was kept. It is one of the events up to
-//!   the closing one, begins in that block, and none from there has fewer visits. Each event comes with its line and that
-//!   of the first event of its transaction. With them come the transactions of the cycle, each with its thread, its line,
-//!   and as a block with its label and, where it has ended, the line of its end, and the closing event:
-//!   `Monitor::finish_explained`, `told`, `own_fault`. `check_trace_explained` gives the same of parts at once, and
-//!   `Monitor::explain` of a violation that is certain, while the monitor goes on.
-//! - A monitor of `Recorder` also gives at its end what is found of what it was fed: the verdict with such a cycle exactly
-//!   where it is a violation, and with the blocks that are open exactly where it is `Pending`. Each of these comes with
-//!   its thread, and with the line and the label of its begin. They are the first 64 in the order of their begins:
-//!   `Monitor::finish_to_explain`. `explain_trace` gives the same of parts at once.
-//! - A monitor of `InFull` gives at its end all of these, each with the verdict that it goes with:
-//!   `Monitor::finish_in_full`. `check_trace_in_full` gives the same of parts at once.
+//! - `check_trace`, `check_trace_by` and `serial_order` feed their parts to a monitor: `feed_all`.
+//! - There is a serial order exactly if the verdict is `Serializable` or `Pending` and the graph has no cycle. It is
+//!   returned by the lines of first events: `serial_order`, `exact`, `serializable`, `lines`.
+//! - A `Judge` finds what its terms ask for of the parts that it was fed, though none was kept, and `judge_trace` finds the
+//!   same of parts at once: the verdict, and no fault of it is want of memory. If the order is asked for, the transactions
+//!   come with a verdict `Serializable`, in the serial order, each by the line and the thread of its first event. If the
+//!   verdict is to be explained, a telling cycle comes with `Violation`, and the first 64 open blocks with `Pending`:
+//!   `Judge::new`, `feed`, `feed_all`, `finish`, `finding`, `own_fault`; `judge_trace`.
+//! - The cycle is one of the events up to the closing one, begins in the block that the verdict names, and none from there
+//!   has fewer visits. Each event comes with its line and that of the first event of its transaction. With them come the
+//!   transactions of the cycle, each with its thread, its line, and as a block with its label and, if it has ended, the line
+//!   of its end, and the closing event. Each open block comes with its thread, and with the line and the label of its begin,
+//!   in the order of their begins: `IsTraceFinding`.
+//! - A judge that is to explain shows a violation as soon as it is certain, and goes on: `Judge::explain`.
 //! - The actor of the event on a line is returned, whatever the limits, if there is one: `actor_at`.
 //! - `InOrder`, first places with the transactions, `Recorder`, with the events, and `InFull`, with both, are engines too: of
 //!   the events that each is given it tells what the definitions say. By `Engine::judge`, `told`.
 //! - They keep something of each event that they are given, also of the one that closes a cycle: `InOrder` the line and
 //!   the thread of each transaction's first event, `Recorder` each event with its line and its label, `InFull` both. By
 //!   `Engine::judge`, `kept`.
-//! - The terms on which a source is judged are those that were given: `Terms::new`, and each of its calls.
 //! - All parts have exactly one verdict. `Serializable` means that there is no cycle at all, a violation that there is
 //!   one, and with open blocks each cycle passes two of them: `laws`.
 #![tactic(auto)]
@@ -70,6 +63,7 @@ mod first_steps;
 pub mod full;
 mod ghost_parts;
 pub mod in_order;
+pub mod judge;
 mod known;
 pub mod laws;
 pub mod monitor;
@@ -82,16 +76,13 @@ mod serial;
 mod shown;
 mod spans;
 mod sweep;
-mod terms;
 
 pub use actor::actor_at;
 pub use aero_engine::engine;
 pub use check::{check_trace, check_trace_by};
-pub use explained::check_trace_explained;
-pub use full::{InFull, check_trace_in_full};
+pub use full::InFull;
 pub use in_order::InOrder;
+pub use judge::{Judge, judge_trace};
 pub use monitor::{Monitor, feed_all};
-pub use opened::explain_trace;
 pub use recorder::Recorder;
-pub use serial::{check_trace_in_order, serial_order};
-pub use terms::Terms;
+pub use serial::serial_order;

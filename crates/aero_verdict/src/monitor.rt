@@ -48,7 +48,7 @@
 //! let is_certain = monitor.certain().is_some();
 //! let verdict = monitor.finish()?;
 //! ```
-ghost use Rattle.std.specs.Prelude.{◌≡◌, ◌+◌, ◌++◌, ◌∷◌, [], ◌<◌, ◌≤◌, ◌↔◌, ℕ, List, All, true, false, is_some, Some, Ok, IsTrue, IfOk, IfSome, OnErr, option_map};
+ghost use Rattle.std.specs.Prelude.{◌≡◌, ◌+◌, ◌++◌, ◌∷◌, [], ◌<◌, ◌≤◌, ◌↔◌, ℕ, List, All, true, false, is_some, None, Some, Ok, IsTrue, IfOk, IfSome, OnErr, option_map};
 ghost use Rattle.aero_model.specs.Exempt.{Listed};
 ghost use Rattle.aero_grammar.specs.Reading.{Reading, IsReading, whole_reading};
 ghost use Rattle.aero_model.specs.Verdicts.{HasOwnFault};
@@ -57,7 +57,8 @@ ghost use Rattle.aero_verdict.specs.declared.monitor.State.TheVariants.{Undecide
 ghost use Rattle.aero_verdict.specs.Fed.{IsCertain, IsOpen};
 ghost use Rattle.aero_verdict.specs.Monitored.{FedSo, is_spent, certain_of, TellsFed};
 ghost use Rattle.aero_verdict.specs.Parts.{IsPartExpected};
-ghost use Rattle.aero_verdict.specs.Verdict.{under, IsVerdict};
+ghost use Rattle.aero_verdict.specs.Verdict.{IsVerdict};
+ghost use Rattle.aero_model.specs.Terms.{under};
 
 use crate::check::{check_part, faultless};
 use crate::checker::Checker;
@@ -102,7 +103,7 @@ impl<E: Engine> Model for Monitor<E> {
     ghost Value = { Fed };
 
     ghost use Rattle.aero_engine.specs.Given.{words_of};
-    ghost use Rattle.aero_verdict.specs.Verdict.{under};
+    ghost use Rattle.aero_model.specs.Terms.{under};
     ghost use Rattle.aero_verdict.specs.Monitored.{FedSo, is_spent, certain_of};
 
     ghost view = { λ m. record {
@@ -125,6 +126,7 @@ impl<E: Engine> Monitor<E> {
     pub fn new(alloc: Global, limits: &Limits, except: &Except) -> Monitor<E>
         ensures rules { result.rules ≡ under limits.now except.now }
         ensures none { result.parts ≡ [] }
+        ensures undecided { result.certain ≡ None }
         ensures fresh { result.is_spent ≡ false }
     {
         Monitor {
@@ -150,8 +152,10 @@ impl<E: Engine> Monitor<E> {
         ensures fed { self.new.parts ≡ self.old.parts ++ part.now ∷ [] }
         ensures told { IfOk result (λ is_certain. is_certain ≡ is_some self.new.certain) }
         ensures certain { IfSome self.new.certain (IsCertain self.new.parts self.new.rules) }
-        ensures going_on { IfOk result (λ is_certain. is_certain ≡ false → IsOpen self.new.parts self.new.rules) }
-        ensures within { IfOk result (λ is_certain. is_certain ≡ false → (whole_reading self.new.parts).lines ≤ self.new.rules.limits.lines + 1) }
+        ensures going_on { IfOk result (λ is_certain. is_certain ≡ false →
+            IsOpen self.new.parts self.new.rules) }
+        ensures within { IfOk result (λ is_certain. is_certain ≡ false →
+            (whole_reading self.new.parts).lines ≤ self.new.rules.limits.lines + 1) }
         ensures stays { IfSome self.old.certain (λ verdict. self.new.certain ≡ Some verdict) }
         ensures spent { OnErr result (self.new.is_spent ≡ true) }
         ensures stays_spent { self.old.is_spent ≡ true → self.new.is_spent ≡ true }
@@ -201,7 +205,8 @@ impl<E: Engine> Monitor<E> {
 
     // The same, with the checker.
     pub(crate) fn into_verdict(self) -> (Result<Verdict, AllocError>, Checker<E>)
-        ensures tells { IfOk result.0 (TellsFed (words_of E.stands_for E.keeps) self.rules self.parts result.1) }
+        ensures tells { IfOk result.0 (TellsFed (words_of E.stands_for E.keeps) self.rules
+            self.parts result.1) }
         ensures readings { All IsReading self.parts }
         ensures few { self.rules.limits.lines ≤ 4000000000 }
         ensures spent { OnErr result.0 (self.is_spent ≡ true) }
@@ -254,9 +259,13 @@ fn judge_part<E: Engine>(
     limits: &Limits,
     except: &Except,
 ) -> (u32, State)
-    requires { IsPartExpected (words_of E.stands_for E.keeps) (under limits.now except.now) lines checker.old part.now }
-    ensures so { (fed : List Reading) → FedSo (words_of E.stands_for E.keeps) (under limits.now except.now) fed lines checker.old Undecided →
-        FedSo (words_of E.stands_for E.keeps) (under limits.now except.now) (fed ++ part.now ∷ []) result.0 checker.new result.1 }
+    requires { IsPartExpected (words_of E.stands_for E.keeps) (under limits.now except.now) lines
+        checker.old part.now }
+    ensures so { (fed : List Reading) →
+        FedSo (words_of E.stands_for E.keeps) (under limits.now except.now) fed lines checker.old
+        Undecided →
+        FedSo (words_of E.stands_for E.keeps) (under limits.now except.now) (fed ++ part.now ∷ [])
+        result.0 checker.new result.1 }
     ensures few { result.1 ≡ Undecided → result.0 ≤ limits.now.lines + 1 }
 {
     match check_part(alloc, checker, part, lines, limits, except) {
@@ -278,8 +287,11 @@ fn verdict_of<E: Engine>(
     limits: &Limits,
     state: State,
 ) -> Result<Verdict, AllocError>
-    ensures tells { (labels : Listed) (fed : List Reading) → FedSo (words_of E.stands_for E.keeps) (under limits.now labels) fed lines checker.now state →
-        IfOk result (TellsFed (words_of E.stands_for E.keeps) (under limits.now labels) fed checker.now) }
+    ensures tells { (labels : Listed) (fed : List Reading) →
+        FedSo (words_of E.stands_for E.keeps) (under limits.now labels) fed lines checker.now
+        state →
+        IfOk result (TellsFed (words_of E.stands_for E.keeps) (under limits.now labels) fed
+        checker.now) }
     ensures spent { OnErr result (is_spent state ≡ true) }
 {
     match state {
@@ -291,7 +303,10 @@ fn verdict_of<E: Engine>(
 
 // The verdict after all parts, where nothing was wrong with any.
 fn at_end<E: Engine>(checker: &Checker<E>, lines: u32, limits: &Limits) -> Verdict
-    ensures { (labels : Listed) (fed : List Reading) → FedSo (words_of E.stands_for E.keeps) (under limits.now labels) fed lines checker.now Undecided → TellsFed (words_of E.stands_for E.keeps) (under limits.now labels) fed checker.now result }
+    ensures { (labels : Listed) (fed : List Reading) →
+        FedSo (words_of E.stands_for E.keeps) (under limits.now labels) fed lines checker.now
+        Undecided → TellsFed (words_of E.stands_for E.keeps) (under limits.now labels) fed
+        checker.now result }
 {
     if lines > limits.lines {
         return too_many_lines(limits);

@@ -1,5 +1,8 @@
 //! The numbers of names: threads, variables and locks each for themselves, in order of first
 //! appearance, and no more of each than the limits allow.
+ghost use Rattle.std.specs.Prelude.{◌≡◌};
+ghost use Rattle.aero_verdict.specs.Limited.{with_number};
+
 use crate::known::{ChunkNames, Known, number_known};
 use crate::named::named;
 use aero_model::{Limits, Name, Numbered, ShapeFault, What};
@@ -40,7 +43,8 @@ impl Numbering {
         requires { IsNamedThread self.now t }
         ensures name { IfOk result (λ name. slice_get (names_in self.now).threads t ≡ Some name) }
         ensures long { OnErr result (HasLongName self.now t) }
-        ensures short { (name : List ℕ) → slice_get (names_in self.now).threads t ≡ Some name → IsName name → length name ≤ most_inline_bytes → IsOk result }
+        ensures short { (name : List ℕ) → slice_get (names_in self.now).threads t ≡ Some name →
+            IsName name → length name ≤ most_inline_bytes → IsOk result }
     {
         let Some(bytes) = self.threads.name(t) else {
             unreachable!();
@@ -60,8 +64,11 @@ impl Numbering {
         event: Numbered,
     ) -> Result<Numbered, ShapeFault>
         requires { Knows self.old (tables_in chunk) known.old }
-        ensures ok { IfOk result (λ numbered. NumbersEvent self.old self.new (named_in (tables_in chunk.entry) chunk.entry.labels.now event) numbered) }
-        ensures err { IfErr result (λ fault. RefusesEvent self.old (named_in (tables_in chunk.entry) chunk.entry.labels.now event) fault) }
+        ensures ok { IfOk result (λ numbered. NumbersEvent self.old self.new
+            (named_in (tables_in chunk.entry) chunk.entry.labels.now event) numbered) }
+        ensures err { IfErr result (λ fault.
+            RefusesEvent self.old (named_in (tables_in chunk.entry) chunk.entry.labels.now event)
+            fault) }
         ensures known { OnOk result (Knows self.new (tables_in chunk.entry) known.new) }
     {
         let full = ShapeFault::TooManyThreads;
@@ -86,69 +93,48 @@ impl Numbering {
         what: What,
     ) -> Result<What, ShapeFault>
         requires { Knows self.old (tables_in chunk) known.old }
-        ensures ok { IfOk result (λ numbered. NumbersTarget self.old self.new (op_of what) (target_in (tables_in chunk.entry) chunk.entry.labels.now what) numbered) }
-        ensures err { IfErr result (λ fault. RefusesTarget self.old (op_of what) (target_in (tables_in chunk.entry) chunk.entry.labels.now what) fault) }
+        ensures ok { IfOk result (λ numbered. NumbersTarget self.old self.new (op_of what)
+            (target_in (tables_in chunk.entry) chunk.entry.labels.now what) numbered) }
+        ensures err { IfErr result (λ fault. RefusesTarget self.old (op_of what)
+            (target_in (tables_in chunk.entry) chunk.entry.labels.now what) fault) }
         ensures known { OnOk result (Knows self.new (tables_in chunk.entry) known.new) }
     {
-        let many_threads = ShapeFault::TooManyThreads;
-        let many_names = ShapeFault::TooManyNames;
+        let full = ShapeFault::TooManyNames;
         match what {
-            What::Read(x) => {
+            What::Read(x) | What::Write(x) => {
                 let names = &mut self.variables;
-                let number = number_known(
-                    names,
-                    &mut known.variables,
-                    chunk.variables,
-                    x,
-                    many_names,
-                )?;
-                Ok(What::Read(number))
+                let number = number_known(names, &mut known.variables, chunk.variables, x, full)?;
+                Ok(with_number(what, number))
             }
-            What::Write(x) => {
-                let names = &mut self.variables;
-                let number = number_known(
-                    names,
-                    &mut known.variables,
-                    chunk.variables,
-                    x,
-                    many_names,
-                )?;
-                Ok(What::Write(number))
-            }
-            What::Acquire(l) => {
+            What::Acquire(l) | What::Release(l) => {
                 let names = &mut self.locks;
-                let number = number_known(names, &mut known.locks, chunk.locks, l, many_names)?;
-                Ok(What::Acquire(number))
+                let number = number_known(names, &mut known.locks, chunk.locks, l, full)?;
+                Ok(with_number(what, number))
             }
-            What::Release(l) => {
-                let names = &mut self.locks;
-                let number = number_known(names, &mut known.locks, chunk.locks, l, many_names)?;
-                Ok(What::Release(number))
-            }
-            What::Fork(u) => {
+            What::Fork(u) | What::Join(u) => {
+                let full = ShapeFault::TooManyThreads;
                 let names = &mut self.threads;
-                let number = number_known(
-                    names,
-                    &mut known.threads,
-                    chunk.threads,
-                    u,
-                    many_threads,
-                )?;
-                Ok(What::Fork(number))
-            }
-            What::Join(u) => {
-                let names = &mut self.threads;
-                let number = number_known(
-                    names,
-                    &mut known.threads,
-                    chunk.threads,
-                    u,
-                    many_threads,
-                )?;
-                Ok(What::Join(number))
+                let number = number_known(names, &mut known.threads, chunk.threads, u, full)?;
+                Ok(with_number(what, number))
             }
             What::Begin(_) => Ok(What::Begin(None)),
             What::End | What::Exempt => Ok(What::End),
         }
+    }
+}
+
+// The same with this number for its target, if that is no label.
+#[inline(always)]
+fn with_number(what: What, number: u32) -> What
+    ensures { result ≡ with_number what number }
+{
+    match what {
+        What::Read(_) => What::Read(number),
+        What::Write(_) => What::Write(number),
+        What::Acquire(_) => What::Acquire(number),
+        What::Release(_) => What::Release(number),
+        What::Fork(_) => What::Fork(number),
+        What::Join(_) => What::Join(number),
+        _ => what,
     }
 }

@@ -16,7 +16,8 @@ pub(crate) struct Spot<'a> {
 // Where the event on this line stands, whatever the limits, if there is one. Lines count from 1 through
 // all parts, and what follows a part with a fault is ignored.
 pub(crate) fn spot_on(parts: &[Parsed], line: u32) -> Option<Spot<'_>>
-    ensures { option_map named_spot result ≡ option_map Some (named_on line (whole_reading parts.now).events) }
+    ensures { option_map named_spot result ≡
+        option_map Some (named_on line (whole_reading parts.now).events) }
 {
     let mut before = 0u32;
     for part in parts {
@@ -34,7 +35,8 @@ pub(crate) fn spot_on(parts: &[Parsed], line: u32) -> Option<Spot<'_>>
 
 // The place of the event of the part that is on this line, where so many lines stand before.
 fn place_in_part(part: &Parsed, before: u32, line: u32) -> Option<usize>
-    ensures { option_map (named_at part.now) result ≡ option_map Some (named_on line (map (after_lines before) part.now.events)) }
+    ensures { option_map (named_at part.now) result ≡
+        option_map Some (named_on line (map (after_lines before) part.now.events)) }
 {
     if before < line && line - before <= part.lines {
         place_in(part, line - before)
@@ -44,7 +46,8 @@ fn place_in_part(part: &Parsed, before: u32, line: u32) -> Option<usize>
 }
 
 fn place_in(part: &Parsed, line: u32) -> Option<usize>
-    ensures { option_map (named_at part.now) result ≡ option_map Some (named_on line part.now.events) }
+    ensures { option_map (named_at part.now) result ≡
+        option_map Some (named_on line part.now.events) }
 {
     let events = part.events.as_slice();
     for place in 0..events.len() {

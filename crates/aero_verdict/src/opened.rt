@@ -4,53 +4,35 @@ ghost use Rattle.std.specs.List.{AllZip};
 ghost use Rattle.aero_grammar.specs.Reading.{Reading};
 ghost use Rattle.aero_witness.specs.Parts.{AreOf};
 ghost use Rattle.aero_verdict.specs.Explained.{ShowsVerdict};
-ghost use Rattle.aero_verdict.specs.Finding.{IsTraceFinding, on};
+ghost use Rattle.aero_verdict.specs.Finding.{IsTraceFinding};
+ghost use Rattle.aero_model.specs.Terms.{on, Rules};
+ghost use Rattle.aero_model.specs.Verdicts.{verdict_of};
 ghost use Rattle.aero_verdict.specs.Opened.{AreOpenBlocks, ShowsBlocks};
 ghost use Rattle.aero_verdict.specs.Ordered.{has_order};
 ghost use Rattle.aero_verdict.specs.Records.{IsJudged, IsWhole, IsWholeRecord, AreShown, IsBegunAt, AreBegunTo, IsBlockAt};
-ghost use Rattle.aero_verdict.specs.Verdict.{Rules, under, IsVerdict};
+ghost use Rattle.aero_verdict.specs.Verdict.{IsVerdict};
 
 use crate::explained::{cycle_in, event_at};
-use crate::monitor::{Monitor, feed_all};
+use crate::monitor::Monitor;
 use crate::numbering::Numbering;
 use crate::recorder::Recorder;
-use aero_grammar::Parsed;
-use aero_model::{Cycle, Except, Finding, Limits, Numbered, OpenBlock, Verdict, What};
+use aero_model::{Cycle, Finding, Numbered, OpenBlock, Verdict, What};
 use aero_witness::{TransactionTable, has_ended, transactions_of};
 use std::alloc::{AllocError, Global};
 
 // How many open blocks are told at most: the first in the order of their begins.
 const MOST: usize = 64;
 
-/// What is found of the trace that the parts hold: the verdict, as `check_trace` tells it, with what shows it. Where it
-/// is a `Violation`, that is the cycle that `check_trace_explained` tells. Where it is `Pending`, it is the blocks that
-/// are open, each with its thread and the line and the label of its begin, in the order of their begins. Of more than
-/// 64 it is the first 64.
-///
-/// An `AllocError` says that memory was refused.
-pub fn explain_trace(
-    alloc: Global,
-    parts: &[Parsed],
-    limits: &Limits,
-    except: &Except,
-) -> Result<Finding, AllocError>
-    ensures { IfOk result (IsTraceFinding parts.now (on (under limits.now except.now) false true)) }
-{
-    let mut monitor = Monitor::<Recorder>::new(alloc, limits, except);
-    feed_all(&mut monitor, parts, except);
-    monitor.finish_to_explain()
-}
-
 impl Monitor<Recorder> {
     ghost use Rattle.std.specs.Prelude.{true, false, IfOk};
-    ghost use Rattle.aero_verdict.specs.Finding.{IsTraceFinding, on};
+    ghost use Rattle.aero_verdict.specs.Finding.{HasOwnVerdict, IsTraceFinding};
+    ghost use Rattle.aero_model.specs.Terms.{on};
 
-    /// What is found of exactly the parts that were fed, though none was kept: the verdict with what shows it, a telling
-    /// cycle where it is a `Violation`, and the first 64 open blocks where it is `Pending`.
-    ///
-    /// An `AllocError` says that memory was refused.
-    pub fn finish_to_explain(self) -> Result<Finding, AllocError>
-        ensures { IfOk result (IsTraceFinding self.parts (on self.rules false true)) }
+    // What is found of exactly the parts that were fed: the verdict with what shows it, a telling cycle if it is a
+    // `Violation`, and the first 64 open blocks if it is `Pending`. An `AllocError` says that memory was refused.
+    pub(crate) fn finish_to_explain(self) -> Result<Finding, AllocError>
+        ensures finding { IfOk result (IsTraceFinding self.parts (on self.rules false true)) }
+        ensures own_fault { IfOk result HasOwnVerdict }
     {
         let alloc = self.alloc;
         let (verdict, checker) = self.into_verdict();
@@ -66,9 +48,12 @@ pub(crate) fn finding_shown(
     recorder: &Recorder,
     verdict: Verdict,
 ) -> Result<Finding, AllocError>
-    requires { (parts : List Reading) × (rules : Rules) × IsJudged parts rules names.now recorder.now verdict }
-    ensures { (parts : List Reading) (rules : Rules) (order : Bool) → IsJudged parts rules names.now recorder.now verdict → has_order order verdict ≡ false →
+    requires { (parts : List Reading) × (rules : Rules) ×
+        IsJudged parts rules names.now recorder.now verdict }
+    ensures finding { (parts : List Reading) (rules : Rules) (order : Bool) →
+        IsJudged parts rules names.now recorder.now verdict → has_order order verdict ≡ false →
         IfOk result (IsTraceFinding parts (on rules order true)) }
+    ensures same { IfOk result (λ finding. verdict_of finding ≡ Some verdict) }
 {
     let cycle = cycle_in(alloc, names, recorder, &verdict)?;
     let blocks = blocks_in(alloc, names, recorder, &verdict)?;
@@ -77,8 +62,12 @@ pub(crate) fn finding_shown(
 
 // The same, where this is what shows the verdict.
 fn finding_with(verdict: Verdict, cycle: Option<Cycle>, blocks: Option<Vec<OpenBlock>>) -> Finding
-    ensures { (parts : List Reading) (rules : Rules) (order : Bool) → IsVerdict parts rules verdict → has_order order verdict ≡ false → ShowsVerdict parts rules verdict cycle →
-        ShowsBlocks parts rules verdict (option_map (λ blocks. blocks.items) blocks) → IsTraceFinding parts (on rules order true) result }
+    ensures finding { (parts : List Reading) (rules : Rules) (order : Bool) →
+        IsVerdict parts rules verdict → has_order order verdict ≡ false →
+        ShowsVerdict parts rules verdict cycle →
+        ShowsBlocks parts rules verdict (option_map (λ blocks. blocks.items) blocks) →
+        IsTraceFinding parts (on rules order true) result }
+    ensures same { verdict_of result ≡ Some verdict }
 {
     match (cycle, blocks) {
         (Some(cycle), _) => Finding::Explained(verdict, cycle),
@@ -94,9 +83,12 @@ pub(crate) fn blocks_in(
     recorder: &Recorder,
     verdict: &Verdict,
 ) -> Result<Option<Vec<OpenBlock>>, AllocError>
-    requires { (parts : List Reading) × (rules : Rules) × IsJudged parts rules names.now recorder.now verdict.now }
-    ensures { (parts : List Reading) (rules : Rules) → IsJudged parts rules names.now recorder.now verdict.now →
-        IfOk result (λ blocks. ShowsBlocks parts rules verdict.now (option_map (λ b. b.items) blocks)) }
+    requires { (parts : List Reading) × (rules : Rules) ×
+        IsJudged parts rules names.now recorder.now verdict.now }
+    ensures { (parts : List Reading) (rules : Rules) →
+        IsJudged parts rules names.now recorder.now verdict.now →
+        IfOk result (λ blocks. ShowsBlocks parts rules verdict.now
+        (option_map (λ b. b.items) blocks)) }
 {
     let Verdict::Pending { .. } = verdict else {
         return Ok(None);
@@ -112,7 +104,9 @@ fn open_blocks(
     recorder: &Recorder,
 ) -> Result<Vec<OpenBlock>, AllocError>
     requires { IsWhole names.now recorder.now }
-    ensures { (parts : List Reading) (rules : Rules) → IsWholeRecord parts rules names.now recorder.now → IfOk result (λ blocks. AreOpenBlocks parts rules blocks.items) }
+    ensures { (parts : List Reading) (rules : Rules) →
+        IsWholeRecord parts rules names.now recorder.now →
+        IfOk result (λ blocks. AreOpenBlocks parts rules blocks.items) }
 {
     let transactions = transactions_of(alloc, &recorder.events)?;
     let places = openings(alloc, &recorder.events, &transactions)?;
@@ -150,7 +144,8 @@ fn is_opening(events: &[Numbered], transactions: &TransactionTable, what: What, 
 }
 
 fn push_if(places: &mut Vec<u32>, wanted: bool, place: u32) -> Result<(), AllocError>
-    ensures { OnOk result (places.new.items ≡ places.old.items ++ (if wanted then place ∷ [] else [])) }
+    ensures { OnOk result (places.new.items ≡ places.old.items ++
+        (if wanted then place ∷ [] else [])) }
 {
     if wanted {
         places.push(place)?;
@@ -174,7 +169,8 @@ fn blocks_at(
 ) -> Result<Vec<OpenBlock>, AllocError>
     requires shown { AreShown names.now recorder.now }
     requires within { All (λ place. place < length recorder.now.events.items) places.now }
-    ensures { IfOk result (λ blocks. AllZip (IsBlockAt names.now recorder.now) places.now blocks.items) }
+    ensures { IfOk result (λ blocks. AllZip (IsBlockAt names.now recorder.now) places.now
+        blocks.items) }
 {
     let mut blocks = Vec::with_capacity(alloc, places.len())?;
     for place in places {

@@ -98,9 +98,13 @@ fn judge(
     label: Option<&[u8]>,
 ) -> Result<Option<u32>, Spent>
     requires { IsAdmitted (StandsForLeads recorder.old) event.now admitted }
-    ensures told { (h : List Numbered) (judged : Numbered) → IsJudgedAs event.now judged → ComesAfter (StandsForLeads recorder.old) h judged admitted →
+    ensures told { (h : List Numbered) (judged : Numbered) → IsJudgedAs event.now judged →
+        ComesAfter (StandsForLeads recorder.old) h judged admitted →
         IfOk result (Tells (StandsForLeads recorder.new) (h ++ judged ∷ []) (length h)) }
-    ensures kept { OnOk result ((given : List Given) (named : Option (List ℕ)) → option_copied label.entry ≡ named → HasRecorded recorder.old given → HasRecorded recorder.new (given ++ record { line = line; event = event.now; admitted = admitted; label = named } ∷ [])) }
+    ensures kept { OnOk result ((given : List Given) (named : Option (List ℕ)) →
+        option_copied label.entry ≡ named → HasRecorded recorder.old given →
+        HasRecorded recorder.new (given ++
+        record { line = line; event = event.now; admitted = admitted; label = named } ∷ [])) }
 {
     sweep_if_due(recorder)?;
     note(recorder, line, event, admitted, label)?;
@@ -141,7 +145,8 @@ fn sweep(recorder: &mut Recorder) -> Result<(), AllocError>
 
 // Forgets the labels that none of these codes names, and numbers the others anew.
 fn relabel(alloc: Global, labels: &mut Names, said: &mut Vec<u32>) -> Result<(), AllocError>
-    ensures { OnOk result (AllZip (SaysSame labels.old.names labels.new.names) said.old.items said.new.items) }
+    ensures { OnOk result (AllZip (SaysSame labels.old.names labels.new.names) said.old.items
+        said.new.items) }
 {
     let mut left = Names::new(alloc, u32::MAX);
     let mut codes = Vec::new(alloc);
@@ -158,7 +163,8 @@ fn recode_all(
     said: &[u32],
 ) -> Result<(), AllocError>
     requires { codes.old.items ≡ [] }
-    ensures { OnOk result (AllZip (SaysSame labels.now.names left.new.names) said.now codes.new.items) }
+    ensures { OnOk result (AllZip (SaysSame labels.now.names left.new.names) said.now
+        codes.new.items) }
 {
     for code in said {
         codes.push(recode(labels, left, *code)?)?;
@@ -195,7 +201,14 @@ fn note(
     label: Option<&[u8]>,
 ) -> Result<(), AllocError>
     ensures firsts { OnOk result (recorder.new.leads ≡ recorder.old.leads) }
-    ensures noted { OnOk result (IsNotedNext recorder.old recorder.new (record { line = line; event = event.now; admitted = admitted; label = option_copied label.entry })) }
+    ensures noted { OnOk result (IsNotedNext recorder.old recorder.new
+        (record {
+          line = line;
+          event = event.now;
+          admitted = admitted;
+          label = option_copied
+              label.entry;
+        })) }
 {
     let what = recorded_what(admitted, event.what);
     push(

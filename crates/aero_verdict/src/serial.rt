@@ -3,12 +3,12 @@ ghost use Rattle.std.specs.Prelude.{◌≡◌, ◌↔◌, ℕ, true, false, List
 ghost use Rattle.aero_model.specs.declared.numbered.Numbered.{Numbered};
 ghost use Rattle.aero_model.specs.declared.verdict.Verdict.{Verdict};
 ghost use Rattle.aero_model.specs.Cycle.{IsSerializable};
-ghost use Rattle.aero_model.specs.Verdicts.{HasOwnFault};
 ghost use Rattle.aero_order.specs.Standing.{StandsFor};
 ghost use Rattle.aero_verdict.specs.InOrder.{AreFirstsInOrder, step_in};
 ghost use Rattle.aero_verdict.specs.Limited.{IsNamedThread};
-ghost use Rattle.aero_verdict.specs.Ordered.{is_faultless, has_order, AreLinesInOrder, TellsInOrder};
-ghost use Rattle.aero_verdict.specs.Verdict.{under, IsVerdict, checked_trace};
+ghost use Rattle.aero_verdict.specs.Ordered.{is_faultless, has_order, AreLinesInOrder};
+ghost use Rattle.aero_verdict.specs.Verdict.{IsVerdict, checked_trace};
+ghost use Rattle.aero_model.specs.Terms.{under};
 
 use crate::first_steps::{lines_of, steps_of};
 use crate::in_order::InOrder;
@@ -34,33 +34,20 @@ pub fn serial_order(
     limits: &Limits,
     except: &Except,
 ) -> Result<Option<Vec<u32>>, AllocError>
-    ensures exact { IfOk result (λ order. (verdict : Verdict) → IsVerdict parts.now (under limits.now except.now) verdict →
-        IsSome order ↔ (IsTrue (is_faultless verdict) × IsSerializable (checked_trace parts.now (under limits.now except.now)) (length (checked_trace parts.now (under limits.now except.now))))) }
-    ensures serializable { IfOk result (λ order. (events blocks : ℕ) → IsVerdict parts.now (under limits.now except.now) (Verdict.Serializable events blocks) → IsSome order) }
-    ensures lines { IfOk result (λ order. IfSome order (λ lines. AreLinesInOrder parts.now (under limits.now except.now) lines.items)) }
+    ensures exact { IfOk result (λ order. (verdict : Verdict) →
+        IsVerdict parts.now (under limits.now except.now) verdict →
+        IsSome order ↔ (IsTrue (is_faultless verdict) ×
+        IsSerializable (checked_trace parts.now (under limits.now except.now))
+        (length (checked_trace parts.now (under limits.now except.now))))) }
+    ensures serializable { IfOk result (λ order. (events blocks : ℕ) →
+        IsVerdict parts.now (under limits.now except.now) (Verdict.Serializable events blocks) →
+        IsSome order) }
+    ensures lines { IfOk result (λ order.
+        IfSome order (λ lines. AreLinesInOrder parts.now (under limits.now except.now) lines.items)) }
 {
     let mut monitor = Monitor::<InOrder>::new(alloc, limits, except);
     feed_all(&mut monitor, parts, except);
     monitor.finish_with_lines()
-}
-
-/// The verdict on the trace that the parts hold, as `check_trace` tells it. Where it is
-/// `Serializable`, its transactions come with it in the serial order, each by the line and the thread
-/// of its first event.
-///
-/// An `AllocError` says that memory was refused.
-pub fn check_trace_in_order(
-    alloc: Global,
-    parts: &[Parsed],
-    limits: &Limits,
-    except: &Except,
-) -> Result<(Verdict, Option<Vec<Step>>), AllocError>
-    ensures told { IfOk result (λ told. TellsInOrder parts.now (under limits.now except.now) told.0 (option_map (λ steps. steps.items) told.1)) }
-    ensures own_fault { IfOk result (λ told. HasOwnFault told.0) }
-{
-    let mut monitor = Monitor::<InOrder>::new(alloc, limits, except);
-    feed_all(&mut monitor, parts, except);
-    monitor.finish_in_order()
 }
 
 impl Monitor<InOrder> {
@@ -71,12 +58,11 @@ impl Monitor<InOrder> {
     ghost use Rattle.aero_verdict.specs.Ordered.{is_faultless, AreLinesInOrder, TellsInOrder};
     ghost use Rattle.aero_verdict.specs.Verdict.{IsVerdict, checked_trace};
 
-    /// The verdict on exactly the parts that were fed. Where it is `Serializable`, the transactions come with it
-    /// in the serial order, each by the line and the thread of its first event.
-    ///
-    /// An `AllocError` says that memory was refused.
-    pub fn finish_in_order(self) -> Result<(Verdict, Option<Vec<Step>>), AllocError>
-        ensures told { IfOk result (λ told. TellsInOrder self.parts self.rules told.0 (option_map (λ steps. steps.items) told.1)) }
+    // The verdict on exactly the parts that were fed. If it is `Serializable`, the transactions come with it in the serial
+    // order, each by the line and the thread of its first event. An `AllocError` says that memory was refused.
+    pub(crate) fn finish_in_order(self) -> Result<(Verdict, Option<Vec<Step>>), AllocError>
+        ensures told { IfOk result (λ told. TellsInOrder self.parts self.rules told.0
+            (option_map (λ steps. steps.items) told.1)) }
         ensures own_fault { IfOk result (λ told. HasOwnFault told.0) }
     {
         let alloc = self.alloc;
@@ -89,10 +75,15 @@ impl Monitor<InOrder> {
 
     // The lines of the first events in the serial order, where nothing is wrong and there is no cycle.
     fn finish_with_lines(self) -> Result<Option<Vec<u32>>, AllocError>
-        ensures exact { IfOk result (λ order. (verdict : Verdict) → IsVerdict self.parts self.rules verdict →
-            IsSome order ↔ (IsTrue (is_faultless verdict) × IsSerializable (checked_trace self.parts self.rules) (length (checked_trace self.parts self.rules)))) }
-        ensures serializable { IfOk result (λ order. (events blocks : ℕ) → IsVerdict self.parts self.rules (Verdict.Serializable events blocks) → IsSome order) }
-        ensures lines { IfOk result (λ order. IfSome order (λ lines. AreLinesInOrder self.parts self.rules lines.items)) }
+        ensures exact { IfOk result (λ order. (verdict : Verdict) →
+            IsVerdict self.parts self.rules verdict →
+            IsSome order ↔ (IsTrue (is_faultless verdict) ×
+            IsSerializable (checked_trace self.parts self.rules)
+            (length (checked_trace self.parts self.rules)))) }
+        ensures serializable { IfOk result (λ order. (events blocks : ℕ) →
+            IsVerdict self.parts self.rules (Verdict.Serializable events blocks) → IsSome order) }
+        ensures lines { IfOk result (λ order.
+            IfSome order (λ lines. AreLinesInOrder self.parts self.rules lines.items)) }
     {
         let alloc = self.alloc;
         let (verdict, checker) = self.into_verdict();
@@ -110,7 +101,8 @@ pub(crate) fn firsts_where(
     wanted: bool,
 ) -> Result<Option<Vec<First>>, AllocError>
     requires { wanted ≡ true → (trace : List Numbered) × StandsFor transactions trace }
-    ensures { IfOk result (λ found. AreFirstsInOrder transactions wanted (option_map (λ firsts. firsts.items) found)) }
+    ensures { IfOk result (λ found. AreFirstsInOrder transactions wanted
+        (option_map (λ firsts. firsts.items) found)) }
 {
     if !wanted {
         return Ok(None);
@@ -125,9 +117,12 @@ pub(crate) fn steps_told(
     verdict: Result<Verdict, AllocError>,
     firsts: Result<Option<Vec<First>>, AllocError>,
 ) -> Result<(Verdict, Option<Vec<Step>>), AllocError>
-    requires { IfOk firsts (λ found. IfSome found (λ firsts. All (λ f. IsNamedThread numbering.now f.thread) firsts.items)) }
+    requires { IfOk firsts (λ found.
+        IfSome found (λ firsts. All (λ f. IsNamedThread numbering.now f.thread) firsts.items)) }
     ensures verdict { IfOk result (λ told. verdict ≡ Ok told.0) }
-    ensures steps { IfOk result (λ told. IsOkAnd firsts (λ found. option_map (λ steps. steps.items) told.1 ≡ option_map (λ firsts. map (step_in numbering.now) firsts.items) found)) }
+    ensures steps { IfOk result (λ told.
+        IsOkAnd firsts (λ found. option_map (λ steps. steps.items) told.1 ≡
+        option_map (λ firsts. map (step_in numbering.now) firsts.items) found)) }
 {
     let verdict = verdict?;
     match firsts? {
@@ -143,7 +138,9 @@ fn lines_told(
     firsts: Result<Option<Vec<First>>, AllocError>,
 ) -> Result<Option<Vec<u32>>, AllocError>
     ensures verdict { OnOk result (IsOk verdict) }
-    ensures lines { IfOk result (λ told. IsOkAnd firsts (λ found. option_map (λ lines. lines.items) told ≡ option_map (λ firsts. map (λ f. f.line) firsts.items) found)) }
+    ensures lines { IfOk result (λ told.
+        IsOkAnd firsts (λ found. option_map (λ lines. lines.items) told ≡
+        option_map (λ firsts. map (λ f. f.line) firsts.items) found)) }
 {
     let _ = verdict?;
     match firsts? {

@@ -83,7 +83,8 @@ fn lasts_of(alloc: Global, firsts: &[u32]) -> Result<Vec<u32>, AllocError>
 fn put(places: &mut Vec<u32>, at: u32, place: u32)
     requires { at < length places.old.items }
     ensures each { length places.new.items ≡ length places.old.items }
-    ensures at { (i : ℕ) → slice_index places.new.items i ≡ (if at == i then place else slice_index places.old.items i) }
+    ensures at { (i : ℕ) → slice_index places.new.items i ≡
+        (if at == i then place else slice_index places.old.items i) }
 {
     places[at as usize] = place;
 }

@@ -17,7 +17,8 @@ pub(crate) fn marks_of(
     events: &[Numbered],
     places: &[u32],
 ) -> Result<Vec<bool>, AllocError>
-    ensures { IfOk result (λ marks. AreMarks (state_of leads.now).rows events.now places.now marks.items) }
+    ensures { IfOk result (λ marks. AreMarks (state_of leads.now).rows events.now places.now
+        marks.items) }
 {
     let mut leasts = Vec::new(alloc);
     let mut marks = Vec::with_capacity(alloc, events.len())?;

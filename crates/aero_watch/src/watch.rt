@@ -66,7 +66,8 @@ impl Watch {
     /// Takes the next piece of the text. Where memory is refused, the watch knows nothing from then on.
     pub fn feed(&mut self, piece: &[u8])
         ensures labels { self.new.labels ≡ self.old.labels }
-        ensures seen { (came : List ℕ) → HasSeen self.old came → HasSeen self.new (came ++ piece.now) }
+        ensures seen { (came : List ℕ) → HasSeen self.old came →
+            HasSeen self.new (came ++ piece.now) }
     {
         let mut rest = piece;
         while self.is_live() && !rest.is_empty() {
@@ -86,8 +87,11 @@ impl Watch {
     ///
     /// `AllocError` where memory is refused now, or was before.
     pub fn lacks(&self, label: &[u8]) -> Result<bool, AllocError>
-        ensures settled { IfOk result (λ lacks. lacks ≡ list_any (bytes_eq label.now) (settled self.now)) }
-        ensures whole { (came : List ℕ) → HasSeen self.now came → IfOk result (λ lacks. lacks ≡ list_any (bytes_eq label.now) (unbegun self.now.labels came)) }
+        ensures settled { IfOk result (λ lacks. lacks ≡
+            list_any (bytes_eq label.now) (settled self.now)) }
+        ensures whole { (came : List ℕ) → HasSeen self.now came →
+            IfOk result (λ lacks. lacks ≡ list_any (bytes_eq label.now)
+            (unbegun self.now.labels came)) }
     {
         if self.refused {
             return Err(AllocError);
@@ -125,7 +129,8 @@ impl Watch {
         ensures labels { self.new.labels ≡ self.old.labels }
         ensures missing { self.new.missing ≡ self.old.missing }
         ensures refused { self.new.refused ≡ false → self.old.refused ≡ false }
-        ensures line { self.new.refused ≡ false → self.new.line ≡ self.old.line ++ take (4097 - length self.old.line) bytes.now }
+        ensures line { self.new.refused ≡ false →
+            self.new.line ≡ self.old.line ++ take (4097 - length self.old.line) bytes.now }
     {
         let room = (MOST_LINE_BYTES + 1).saturating_sub(self.line.len());
         let front = &bytes[..bytes.len().min(room)];
@@ -138,7 +143,9 @@ impl Watch {
     fn end_line(&mut self, front: &[u8])
         ensures labels { self.new.labels ≡ self.old.labels }
         ensures refused { self.new.refused ≡ false → self.old.refused ≡ false }
-        ensures missing { self.new.refused ≡ false → self.new.missing ≡ filter (λ label. not (begins label (self.old.line ++ front.now))) self.old.missing }
+        ensures missing { self.new.refused ≡ false →
+            self.new.missing ≡ filter (λ label. not (begins label (self.old.line ++ front.now)))
+            self.old.missing }
         ensures line { self.new.line ≡ [] }
     {
         if self.line.is_empty() {
@@ -154,7 +161,8 @@ impl Watch {
     fn see(&mut self, line: &[u8])
         ensures labels { self.new.labels ≡ self.old.labels }
         ensures refused { self.new.refused ≡ false → self.old.refused ≡ false }
-        ensures missing { self.new.refused ≡ false → self.new.missing ≡ filter (λ label. not (begins label line.now)) self.old.missing }
+        ensures missing { self.new.refused ≡ false →
+            self.new.missing ≡ filter (λ label. not (begins label line.now)) self.old.missing }
         ensures line { self.new.line ≡ self.old.line }
     {
         match label_of(self.alloc, line) {
@@ -168,7 +176,8 @@ impl Watch {
     fn pass(&mut self, label: Name)
         ensures labels { self.new.labels ≡ self.old.labels }
         ensures refused { self.new.refused ≡ false → self.old.refused ≡ false }
-        ensures missing { self.new.refused ≡ false → self.new.missing ≡ filter (λ other. not (bytes_eq other label)) self.old.missing }
+        ensures missing { self.new.refused ≡ false →
+            self.new.missing ≡ filter (λ other. not (bytes_eq other label)) self.old.missing }
         ensures line { self.new.line ≡ self.old.line }
     {
         if !self.except.get().has_bytes(label.bytes()) {

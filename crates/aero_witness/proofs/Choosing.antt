@@ -1,4 +1,4 @@
--- What of some leads is entered.
+-- What of some arrivals is entered.
 use Rattle.std.proofs.Common.{◌≡◌, ◌⊎◌, ℕ, Bool, true, false, if◌then◌else◌, List, [], ◌∷◌, get_or, Option, Some, None, inl, inr, refl, sym, subst}
 use Rattle.std.specs.Prelude.{IsSome, Contains, filter}
 use Rattle.std.specs.List.{All}
@@ -7,9 +7,9 @@ use Rattle.std.proofs.lemmas.List.Elements.{All-contains, All-contains_itself, A
 use Rattle.std.proofs.lemmas.List.Sorted.{IsPermutation-sym, Contains-permutation}
 use Rattle.aero_model.proofs.Elements.{none_in, here, there, first_or_rest}
 use Rattle.aero_model.specs.declared.numbered.Numbered.{Numbered}
-use Rattle.aero_witness.specs.declared.lanes.Lead.{Lead}
+use Rattle.aero_witness.specs.declared.buckets.Arrival.{Arrival}
 use Rattle.aero_witness.specs.declared.reached.Reached.{Reached}
-use Rattle.aero_witness.specs.Reached.{reached_at, IsLead, AreEntered}
+use Rattle.aero_witness.specs.Reached.{reached_at, IsArrival, AreEntered}
 use Rattle.aero_witness.specs.Chosen.{is_none, AreChosen}
 use Rattle.aero_witness.proofs.Walked.{some_is, some_from}
 
@@ -36,19 +36,19 @@ new_or_reached : (o : Option Reached) → (is_none o ≡ true) ⊎ IsSome o
 new_or_reached None = inl refl
 new_or_reached (Some r) = inr (some_from (Some r) r refl)
 
-pub chosen : (reached : List (Option Reached)) (old mid new : List Lead) → mid ≡ filter (λ (c : Lead). is_none (reached_at reached c.enters)) old → IsPermutation mid new → AreChosen reached old new
+pub chosen : (reached : List (Option Reached)) (old mid new : List Arrival) → mid ≡ filter (λ (c : Arrival). is_none (reached_at reached c.enters)) old → IsPermutation mid new → AreChosen reached old new
 chosen reached old mid new is moved =
     record {
-      only = λ c h. was_in (λ (d : Lead). is_none (reached_at reached d.enters)) old c (subst (λ (xs : List Lead). Contains xs c) is (Contains-permutation new mid c (IsPermutation-sym mid new moved) h));
+      only = λ c h. was_in (λ (d : Arrival). is_none (reached_at reached d.enters)) old c (subst (λ (xs : List Arrival). Contains xs c) is (Contains-permutation new mid c (IsPermutation-sym mid new moved) h));
       all = λ c h. elim (new_or_reached (reached_at reached c.enters)) [
-        | inl none ↦ inl (Contains-permutation mid new c moved (subst (λ (xs : List Lead). Contains xs c) (sym {A = List Lead} is) (stays_in (λ (d : Lead). is_none (reached_at reached d.enters)) c old h none)))
+        | inl none ↦ inl (Contains-permutation mid new c moved (subst (λ (xs : List Arrival). Contains xs c) (sym {A = List Arrival} is) (stays_in (λ (d : Arrival). is_none (reached_at reached d.enters)) c old h none)))
         | inr some ↦ inr some
       ];
     }
 
-module _ (trace : List Numbered) (level : ℕ) (reached : List (Option Reached)) (old new : List Lead) (chosen : AreChosen reached old new) where
-  pub chosen_leads : All (IsLead trace level reached) old → All (IsLead trace level reached) new
-  chosen_leads all = λ k d l. All-contains (IsLead trace level reached) old (get_or new k d) all (chosen.only (get_or new k d) (Contains-get_or new k d l))
+module _ (trace : List Numbered) (level : ℕ) (reached : List (Option Reached)) (old new : List Arrival) (chosen : AreChosen reached old new) where
+  pub chosen_arrivals : All (IsArrival trace level reached) old → All (IsArrival trace level reached) new
+  chosen_arrivals all = λ k d l. All-contains (IsArrival trace level reached) old (get_or new k d) all (chosen.only (get_or new k d) (Contains-get_or new k d l))
 
   pub all_entered : (reached' : List (Option Reached)) → AreEntered trace level reached new reached' → AreEntered trace level reached old reached'
   all_entered reached' e =

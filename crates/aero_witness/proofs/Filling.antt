@@ -4,8 +4,8 @@ use Rattle.std.specs.Prelude.{◌↔◌, slice_get}
 use Rattle.std.proofs.lemmas.Bool.{cases_eq, cases_lt, eq-eqb, eqb-true, false≢true}
 use Rattle.std.proofs.lemmas.List.{length_push, get_or_append_left, get_or_push, get_or_past}
 use Rattle.aero_witness.specs.declared.kinds.Kind.{Kind}
-use Rattle.aero_witness.specs.declared.lanes.Lane.{Lane}
-use Rattle.aero_witness.specs.Lanes.{head_at, head_of, is_number, IsLast, IsOf, IsHomeOf, AreLinks, IsAdded, AreFilled, IsFilled, IsLane, AreHomes, IsFull}
+use Rattle.aero_witness.specs.declared.buckets.Bucket.{Bucket}
+use Rattle.aero_witness.specs.Buckets.{head_at, head_of, is_number, IsLast, IsOf, IsOriginOf, AreLinks, IsAdded, AreFilled, IsFilled, IsBucket, AreOrigins, IsFull}
 use Rattle.aero_witness.specs.Kinds.{targets, has_first, outside}
 use Rattle.aero_witness.proofs.Kinded.{target_within}
 use Rattle.aero_model.specs.declared.numbered.Numbered.{Numbered}
@@ -46,18 +46,18 @@ first_is first None e = absurd (false≢true e)
 first_is first (Some f) e = ap Some (eqb-true f first e)
 
 module _ (t : ℕ → Option ℕ) (firsts : List ℕ) (first n : ℕ) (number : Option ℕ) (number_at : t n ≡ number) where
-  -- at home it has its number
-  pub inner_is : (home : Bool) → ((home ≡ true) ↔ (slice_get firsts n ≡ Some first)) → (m : ℕ) → ((if home then number else None) ≡ Some m) ↔ IsHomeOf t firsts first m n
-  inner_is true home_at m = (λ e. (home_at.0 refl, number_at ∙ e), λ h. sym number_at ∙ h.1)
-  inner_is false home_at m = (λ e. absurd (cc), λ h. absurd (false≢true (home_at.1 h.0)))
+  -- at the origin it has its number
+  pub inner_is : (at_origin : Bool) → ((at_origin ≡ true) ↔ (slice_get firsts n ≡ Some first)) → (m : ℕ) → ((if at_origin then number else None) ≡ Some m) ↔ IsOriginOf t firsts first m n
+  inner_is true origin_at m = (λ e. (origin_at.0 refl, number_at ∙ e), λ h. sym number_at ∙ h.1)
+  inner_is false origin_at m = (λ e. absurd (cc), λ h. absurd (false≢true (origin_at.1 h.0)))
 
   -- and elsewhere
-  pub outer_is : (home : Bool) → ((home ≡ true) ↔ (slice_get firsts n ≡ Some first)) → (if has_first first (slice_get firsts n) then None else t n) ≡ (if home then None else number)
-  outer_is home home_at =
-      let same = same_bool (has_first first (slice_get firsts n)) home (λ e. home_at.1 (first_is first (slice_get firsts n) e)) (λ e. ap (has_first first) (home_at.0 e) ∙ eq-eqb first first refl) in
-      ap (λ b. if b then None else t n) same ∙ ap (λ o. if home then None else o) number_at
+  pub outer_is : (at_origin : Bool) → ((at_origin ≡ true) ↔ (slice_get firsts n ≡ Some first)) → (if has_first first (slice_get firsts n) then None else t n) ≡ (if at_origin then None else number)
+  outer_is at_origin origin_at =
+      let same = same_bool (has_first first (slice_get firsts n)) at_origin (λ e. origin_at.1 (first_is first (slice_get firsts n) e)) (λ e. ap (has_first first) (origin_at.0 e) ∙ eq-eqb first first refl) in
+      ap (λ b. if b then None else t n) same ∙ ap (λ o. if at_origin then None else o) number_at
 
--- a target that isn't at home
+-- a target that isn't at the origin
 outside_by : (b : Bool) (o : Option ℕ) (m : ℕ) → (if b then None else o) ≡ Some m → o ≡ Some m
 outside_by true o m e = absurd (cc)
 outside_by false o m e = e
@@ -65,18 +65,18 @@ outside_by false o m e = e
 pub outside_is : (trace : List Numbered) (firsts : List ℕ) (first : ℕ) (k : Kind) (m j : ℕ) → outside trace firsts first k j ≡ Some m → targets trace k j ≡ Some m
 outside_is trace firsts first k m j e = outside_by (has_first first (slice_get firsts j)) (targets trace k j) m e
 
-home_or : (b : Bool) (o : Option ℕ) (m : ℕ) → o ≡ Some m → (b ≡ true) ⊎ ((if b then None else o) ≡ Some m)
-home_or true o m e = inl refl
-home_or false o m e = inr e
+origin_or : (b : Bool) (o : Option ℕ) (m : ℕ) → o ≡ Some m → (b ≡ true) ⊎ ((if b then None else o) ≡ Some m)
+origin_or true o m e = inl refl
+origin_or false o m e = inr e
 
-pub home_or_outside : (trace : List Numbered) (firsts : List ℕ) (first : ℕ) (k : Kind) (m j : ℕ) → targets trace k j ≡ Some m → (slice_get firsts j ≡ Some first) ⊎ (outside trace firsts first k j ≡ Some m)
-home_or_outside trace firsts first k m j e = elim (home_or (has_first first (slice_get firsts j)) (targets trace k j) m e) [
-  | inl home ↦ inl (first_is first (slice_get firsts j) home)
+pub origin_or_outside : (trace : List Numbered) (firsts : List ℕ) (first : ℕ) (k : Kind) (m j : ℕ) → targets trace k j ≡ Some m → (slice_get firsts j ≡ Some first) ⊎ (outside trace firsts first k j ≡ Some m)
+origin_or_outside trace firsts first k m j e = elim (origin_or (has_first first (slice_get firsts j)) (targets trace k j) m e) [
+  | inl at_origin ↦ inl (first_is first (slice_get firsts j) at_origin)
   | inr out ↦ inr out
 ]
 
 -- one more place
-module _ (t u : ℕ → Option ℕ) (firsts : List ℕ) (first n : ℕ) (inner number : Option ℕ) (old new : Lane) (f : AreFilled t u firsts first n old.before.items old.homes.items old.heads.items) (added : IsAdded inner number n old new) (inner_at : (m : ℕ) → (inner ≡ Some m) ↔ IsHomeOf t firsts first m n) (number_at : u n ≡ number) where
+module _ (t u : ℕ → Option ℕ) (firsts : List ℕ) (first n : ℕ) (inner number : Option ℕ) (old new : Bucket) (f : AreFilled t u firsts first n old.before.items old.origins.items old.heads.items) (added : IsAdded inner number n old new) (inner_at : (m : ℕ) → (inner ≡ Some m) ↔ IsOriginOf t firsts first m n) (number_at : u n ≡ number) where
   abbrev before : List ℕ
   before = old.before.items
 
@@ -119,17 +119,17 @@ module _ (t u : ℕ → Option ℕ) (firsts : List ℕ) (first n : ℕ) (inner n
         ];
       }
 
-  pub one_filled : AreFilled t u firsts first (n + 1) new.before.items new.homes.items new.heads.items
+  pub one_filled : AreFilled t u firsts first (n + 1) new.before.items new.origins.items new.heads.items
   one_filled =
       record {
         each = ap (λ (xs : List ℕ). length xs) added.before ∙ length_push before (head_of heads number) ∙ ap (λ k. k + 1) f.each;
         links = subst (AreLinks u) (sym {A = List ℕ} added.before) links;
-        are_homes = λ m.
-            last_step (IsHomeOf t firsts first m) n (head_at old.homes.items m) (head_at new.homes.items m) (is_number inner m)
+        are_origins = λ m.
+            last_step (IsOriginOf t firsts first m) n (head_at old.origins.items m) (head_at new.origins.items m) (is_number inner m)
             (λ e. (inner_at m).0 (number_is inner m e))
             (λ h. is_numbered inner m ((inner_at m).1 h))
-            (added.homes m)
-            (f.are_homes m);
+            (added.origins m)
+            (f.are_origins m);
         are_heads = λ m.
             last_step (IsOf u m) n (head_at heads m) (head_at new.heads.items m) (is_number number m)
             (λ e. number_at ∙ number_is number m e)
@@ -139,17 +139,17 @@ module _ (t u : ℕ → Option ℕ) (firsts : List ℕ) (first n : ℕ) (inner n
       }
 
 module _ (trace : List Numbered) (firsts : List ℕ) (first : ℕ) where
-  pub same_kind : (n : ℕ) (old new : Lane) → new.kind ≡ old.kind → AreFilled (targets trace old.kind) (outside trace firsts first old.kind) firsts first (n + 1) new.before.items new.homes.items new.heads.items → IsFilled trace firsts first (n + 1) new
-  same_kind n old new e f = subst (λ (k : Kind). AreFilled (targets trace k) (outside trace firsts first k) firsts first (n + 1) new.before.items new.homes.items new.heads.items) (sym {A = Kind} e) f
+  pub same_kind : (n : ℕ) (old new : Bucket) → new.kind ≡ old.kind → AreFilled (targets trace old.kind) (outside trace firsts first old.kind) firsts first (n + 1) new.before.items new.origins.items new.heads.items → IsFilled trace firsts first (n + 1) new
+  same_kind n old new e f = subst (λ (k : Kind). AreFilled (targets trace k) (outside trace firsts first k) firsts first (n + 1) new.before.items new.origins.items new.heads.items) (sym {A = Kind} e) f
 
   -- all places
-  pub all_filled : (k : Kind) (lane : Lane) → lane.kind ≡ k → IsFilled trace firsts first (length trace) lane → IsLane trace (outside trace firsts first) k lane × AreHomes trace firsts first k lane × IsFull trace firsts first k lane
-  all_filled k lane e f = (is, g.are_homes, full)
+  pub all_filled : (k : Kind) (bucket : Bucket) → bucket.kind ≡ k → IsFilled trace firsts first (length trace) bucket → IsBucket trace (outside trace firsts first) k bucket × AreOrigins trace firsts first k bucket × IsFull trace firsts first k bucket
+  all_filled k bucket e f = (is, g.are_origins, full)
     where
-      g : AreFilled (targets trace k) (outside trace firsts first k) firsts first (length trace) lane.before.items lane.homes.items lane.heads.items
-      g = subst (λ (l : Kind). AreFilled (targets trace l) (outside trace firsts first l) firsts first (length trace) lane.before.items lane.homes.items lane.heads.items) e f
+      g : AreFilled (targets trace k) (outside trace firsts first k) firsts first (length trace) bucket.before.items bucket.origins.items bucket.heads.items
+      g = subst (λ (l : Kind). AreFilled (targets trace l) (outside trace firsts first l) firsts first (length trace) bucket.before.items bucket.origins.items bucket.heads.items) e f
 
-      is : IsLane trace (outside trace firsts first) k lane
+      is : IsBucket trace (outside trace firsts first) k bucket
       is =
           record {
             kind = e;
@@ -157,10 +157,10 @@ module _ (trace : List Numbered) (firsts : List ℕ) (first : ℕ) where
             some = λ m j at. outside_is trace firsts first k m j at;
             links = g.links;
             heads = record {
-              within = λ m. last_within (IsOf (outside trace firsts first k) m) (length trace) (head_at lane.heads.items m) (g.are_heads m);
+              within = λ m. last_within (IsOf (outside trace firsts first k) m) (length trace) (head_at bucket.heads.items m) (g.are_heads m);
               is = λ m j h. ((g.are_heads m).is j h).1;
             };
           }
 
-      full : IsFull trace firsts first k lane
+      full : IsFull trace firsts first k bucket
       full m j le at = (g.are_heads m).none j le (target_within trace k j m (outside_is trace firsts first k m j at)) at

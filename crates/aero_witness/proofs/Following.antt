@@ -21,7 +21,7 @@ module _ (trace : List Numbered) where
   following v [] g a = tt
   following v (w ∷ ws) g a = (record { conflict = g.0; is = g.1; forward = g.2; apart = a.0 }, following w ws g.3 a.1)
 
-  -- from the first visit to the last, and home
+  -- from the first visit to the last, and back
   pub telling_from : (v last : graph.Visit) (ws : List graph.Visit) → IsVisit trace (length trace) v → AreFollowing trace v ws → last ≡ last_visit v ws → Conflict trace last.leaves v.enters → transaction trace last.enters ≢ transaction trace v.enters → IsTelling trace (length trace) v ws
   telling_from v last ws is h e c d =
       record {

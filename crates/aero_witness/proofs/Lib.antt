@@ -1,4 +1,3 @@
-pub mod Deciding
 pub mod Kinded
 pub mod Filling
 pub mod Taken
@@ -26,4 +25,4 @@ pub mod Swept
 pub mod Choosing
 pub mod Round
 pub mod Advancing
-pub mod Homing
+pub mod Returning

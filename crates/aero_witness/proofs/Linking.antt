@@ -3,7 +3,7 @@ use Rattle.std.proofs.Common.{◌≡◌, ◌≢◌, ℕ, ◌+◌, ◌<◌, ◌�
 use Rattle.std.specs.Prelude.{slice_get, slice_index_or}
 use Rattle.std.proofs.lemmas.Bool.{cases_eq, eq-eqb, ne_eqb, cond-true, cond-false}
 use Rattle.std.proofs.lemmas.Option.{same_Some}
-use Rattle.aero_witness.specs.Quest.{IsNextOf, AreNext}
+use Rattle.aero_witness.specs.Basis.{IsNextOf, AreNext}
 
 -- place l is the first from place p on with this first place, or where there is none the number of places
 pub record IsLatest (firsts : List ℕ) (p f l : ℕ) : Type 0 where

@@ -8,9 +8,9 @@ use Rattle.aero_model.specs.declared.numbered.What.{What}
 use Rattle.aero_model.specs.declared.numbered.What.TheVariants.{Read, Write, Acquire, Release, Join}
 use Rattle.aero_model.specs.Graph.{Conflict, Conflicts, same_thread, write_read, read_write, write_write, release_acquire, forks, joined}
 use Rattle.aero_model.specs.Shape.{is_release_of, is_fork_of}
+use Rattle.aero_model.proofs.Conflicting.{fork_is}
 use Rattle.aero_witness.specs.MarkWords.{with_first, least, is_write_of, is_read_of}
 use Rattle.aero_witness.specs.Marks.{Key, Own, Ahead, Writes, Reads, Releases, of_key, deed_source, source_of, IsNoted, AreNoted}
-use Rattle.aero_witness.proofs.Deciding.{fork_is}
 
 write_is : (x : ℕ) (w : What) → is_write_of x w ≡ true → w ≡ Write x
 write_is x (Write y) h = ap Write (sym (eqb-true x y h))

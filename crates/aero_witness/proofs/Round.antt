@@ -9,7 +9,7 @@ use Rattle.aero_model.specs.Blocks.{Transaction, transaction, HasEnded}
 use Rattle.aero_model.specs.Graph.{Conflict, IsVisit, IsForward, BeginsCycle}
 use Rattle.aero_witness.specs.declared.reached.Reached.{Reached}
 use Rattle.aero_witness.specs.Parts.{AreFirstsTo}
-use Rattle.aero_witness.specs.Reached.{reached_at, is_noted, visit, IsNew, IsSwept, IsHomeless, IsFront, AreAtMost}
+use Rattle.aero_witness.specs.Reached.{reached_at, is_noted, visit, IsNew, IsSwept, HasNoWayBack, IsFront, AreAtMost}
 use Rattle.aero_witness.specs.Levels.{ByVisit, AreLevels}
 use Rattle.aero_witness.specs.Search.{unreached}
 use Rattle.aero_witness.proofs.Starting.{fewer_left}
@@ -108,11 +108,11 @@ module _ (trace : List Numbered) (begin first : ℕ) (firsts : List ℕ) (firsts
         let le = most_next k q.0 q.1 in
         (q.0, q.1, omega arith)
 
-    module _ (homeless : 0 < d → IsHomeless trace firsts first (is_noted old d)) where
-      home : (i j : ℕ) (r : Reached) → reached_at old i ≡ Some r → r.level ≡ d → 0 < d → transaction trace j ≡ x → Conflict trace i j → ⊥
-      home i j r at level pos e c =
+    module _ (no_way_back : 0 < d → HasNoWayBack trace firsts first (is_noted old d)) where
+      none_returns : (i j : ℕ) (r : Reached) → reached_at old i ≡ Some r → r.level ≡ d → 0 < d → transaction trace j ≡ x → Conflict trace i j → ⊥
+      none_returns i j r at level pos e c =
           let l = slice_get_within trace j c.second c.second_at in
-          homeless pos j (same_first trace firsts firsts_are j begin l begin_within e ∙ first_at) (i, noted_from d (reached_at old i) r at level, c)
+          no_way_back pos j (same_first trace firsts firsts_are j begin l begin_within e ∙ first_at) (i, noted_from d (reached_at old i) r at level, c)
 
       pub next_levels : AreLevels trace x new (d + 1)
       next_levels =
@@ -128,10 +128,10 @@ module _ (trace : List Numbered) (begin first : ℕ) (firsts : List ℕ) (firsts
               ]
               | inr h ↦ (let more = h.one_more in absurd (omega arith))
             ];
-            no_home = λ i j r at pos less e c. elim (s.only i r at) [
+            no_return = λ i j r at pos less e c. elim (s.only i r at) [
               | inl before ↦ elim (cases_lt r.level d) [
-                | inl l ↦ levels.no_home i j r before pos l e c
-                | inr ge ↦ home i j r before (omega arith) (omega arith) e c
+                | inl l ↦ levels.no_return i j r before pos l e c
+                | inr ge ↦ none_returns i j r before (omega arith) (omega arith) e c
               ]
               | inr h ↦ (let more = h.one_more in absurd (omega arith))
             ];

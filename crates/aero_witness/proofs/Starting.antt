@@ -55,7 +55,7 @@ module _ (trace : List Numbered) (firsts : List ℕ) (firsts_are : AreFirstsTo t
           at_start = λ k r at z. (let l = within k r at in same_by_first trace (transaction trace k) (transaction trace begin) (get_or firsts k 0) first (is_first k (omega arith)) of_begin (zero_level k r at).0);
           sound = λ k r at pos. (let z = (zero_level k r at).1 in absurd (omega arith));
           leads = λ i j k r at less c is f. absurd (omega arith);
-          no_home = λ i j r at pos less e c. absurd (omega arith);
+          no_return = λ i j r at pos less e c. absurd (omega arith);
         }
 
     pub start_most : AreAtMost 0 reached

@@ -7,9 +7,9 @@ use Rattle.aero_model.proofs.Elements.{none_in}
 use Rattle.aero_model.specs.declared.numbered.Numbered.{Numbered}
 use Rattle.aero_model.specs.Blocks.{HasEnded}
 use Rattle.aero_model.specs.Graph.{Conflict, IsVisit, IsForward}
-use Rattle.aero_witness.specs.declared.lanes.Lead.{Lead}
+use Rattle.aero_witness.specs.declared.buckets.Arrival.{Arrival}
 use Rattle.aero_witness.specs.declared.reached.Reached.{Reached}
-use Rattle.aero_witness.specs.Reached.{reached_at, is_noted, visit, IsClosed, IsEntered, IsNew, IsLead, AreEntered}
+use Rattle.aero_witness.specs.Reached.{reached_at, is_noted, visit, IsClosed, IsEntered, IsNew, IsArrival, AreEntered}
 use Rattle.aero_witness.proofs.Walked.{some_is, some_from, some_or_none, not_both}
 
 -- a place to which a walk may go on where it may leave at one to which it may
@@ -25,14 +25,14 @@ module _ (trace : List Numbered) (level : ℕ) (old : List (Option Reached)) whe
   pub none_entered : IsClosed trace old → AreEntered trace level old [] old
   none_entered closed = record { each = refl; kept = λ k r h. h; only = λ k r h. inl h; entered = λ c h. absurd (none_in {x = c} h); closed = closed }
 
-  module _ (leads : List Lead) (lead : Lead) (how : Reached) (cur new : List (Option Reached)) (how_is : how ≡ record { level = level + 1; enters = lead.enters; from = lead.from }) (is_lead : IsLead trace level old lead) (s : AreEntered trace level old leads cur) (e : IsEntered trace how cur new) where
+  module _ (arrivals : List Arrival) (arrival : Arrival) (how : Reached) (cur new : List (Option Reached)) (how_is : how ≡ record { level = level + 1; enters = arrival.enters; from = arrival.from }) (is_arrival : IsArrival trace level old arrival) (s : AreEntered trace level old arrivals cur) (e : IsEntered trace how cur new) where
     stays : (k : ℕ) → IsSome (reached_at cur k) → IsSome (reached_at new k)
     stays k h = let r = some_is (reached_at cur k) h in some_from (reached_at new k) r.0 (e.kept k r.0 r.1)
 
-    enters_is : how.enters ≡ lead.enters
+    enters_is : how.enters ≡ arrival.enters
     enters_is = ap (λ (r : Reached). r.enters) how_is
 
-    from_is : how.from ≡ lead.from
+    from_is : how.from ≡ arrival.from
     from_is = ap (λ (r : Reached). r.from) how_is
 
     was_none : (k : ℕ) → reached_at cur k ≡ None → reached_at old k ≡ None
@@ -47,16 +47,16 @@ module _ (trace : List Numbered) (level : ℕ) (old : List (Option Reached)) whe
         record {
           none = none;
           one_more = ap (λ (r : Reached). r.level) how_is;
-          noted = subst (λ i. is_noted old level i ≡ true) (sym from_is) is_lead.0;
-          conflict = subst (λ i. Conflict trace i how.enters) (sym from_is) (subst (Conflict trace lead.from) (sym enters_is) is_lead.1);
+          noted = subst (λ i. is_noted old level i ≡ true) (sym from_is) is_arrival.0;
+          conflict = subst (λ i. Conflict trace i how.enters) (sym from_is) (subst (Conflict trace arrival.from) (sym enters_is) is_arrival.1);
           is = v;
           forward = f;
         }
 
-    within : lead.enters < length trace
-    within = let c = is_lead.1 in slice_get_within trace lead.enters c.second c.second_at
+    within : arrival.enters < length trace
+    within = let c = is_arrival.1 in slice_get_within trace arrival.enters c.second c.second_at
 
-    here_is : IsSome (reached_at new lead.enters)
+    here_is : IsSome (reached_at new arrival.enters)
     here_is = subst (λ i. IsSome (reached_at new i)) enters_is (e.all how.enters (record { enters = subst (λ i. i < length trace) (sym enters_is) within; leaves = subst (λ i. i < length trace) (sym enters_is) within; one = refl }) (inl (omega arith)))
 
     closed : IsClosed trace new
@@ -68,7 +68,7 @@ module _ (trace : List Numbered) (level : ℕ) (old : List (Option Reached)) whe
           | inr h ↦ (let on = forward_on trace how.enters j k h.2 h.3 v f in e.all k on.0 on.1)
         ]
 
-    pub one_entered : AreEntered trace level old (leads ++ lead ∷ []) new
+    pub one_entered : AreEntered trace level old (arrivals ++ arrival ∷ []) new
     one_entered =
         record {
           each = e.each ∙ s.each;
@@ -77,9 +77,9 @@ module _ (trace : List Numbered) (level : ℕ) (old : List (Option Reached)) whe
             | inl was ↦ s.only k r was
             | inr n ↦ inr (subst (IsNew trace level old k) (sym n.1) (is_new k (was_none k n.0) n.2 n.3))
           ];
-          entered = λ c h. elim (Contains-push_cases leads lead c h) [
+          entered = λ c h. elim (Contains-push_cases arrivals arrival c h) [
             | inl was ↦ stays c.enters (s.entered c was)
-            | inr same ↦ subst (λ (d : Lead). IsSome (reached_at new d.enters)) same here_is
+            | inr same ↦ subst (λ (d : Arrival). IsSome (reached_at new d.enters)) same here_is
           ];
           closed = closed;
         }

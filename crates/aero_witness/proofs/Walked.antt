@@ -8,7 +8,7 @@ use Rattle.aero_model.specs.Blocks.{transaction, HasEnded}
 use Rattle.aero_model.specs.Graph.{IsVisit}
 use Rattle.aero_witness.specs.declared.reached.Reached.{Reached}
 use Rattle.aero_witness.specs.Parts.{IsFirst, AreFirstsTo}
-use Rattle.aero_witness.specs.Quest.{IsNextOf}
+use Rattle.aero_witness.specs.Basis.{IsNextOf}
 use Rattle.aero_witness.specs.Reached.{reached_at, has_level, visit, IsClosedFrom, IsWalked, IsFrom, IsClosed, IsEntered}
 use Rattle.aero_witness.proofs.Nests.{one_first, same_by_first}
 

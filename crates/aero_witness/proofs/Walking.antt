@@ -53,7 +53,7 @@ module _ (trace : List Numbered) (x : Transaction) (reached : List (Option Reach
       let last = last_is trace (length trace) first rest telling.visit telling.walk in
       elim (cases_eq q.level 0) [
         | inl z ↦ telling.ends_apart (last.one ∙ levels.at_start (last_visit first rest).leaves q at z ∙ sym of)
-        | inr pos ↦ levels.no_home (last_visit first rest).leaves first.enters q at (omega arith) less of telling.closed
+        | inr pos ↦ levels.no_return (last_visit first rest).leaves first.enters q at (omega arith) less of telling.closed
       ]
 
   pub fewest : (first : graph.Visit) (rest : List graph.Visit) → IsTelling trace (length trace) first rest → transaction trace first.enters ≡ x → d ≤ length rest
@@ -113,14 +113,14 @@ module _ (trace : List Numbered) (x : Transaction) (reached : List (Option Reach
         end = λ v e. b.end (visit_of w) leaves;
       }
 
-  pub shortest : (out last home : ℕ) (visits : List Visit) (first : Visit) (r q : Reached) → Back trace reached d out last visits → reached_at reached out ≡ Some r → r.level ≡ 0 → reached_at reached last ≡ Some q → 0 < q.level → transaction trace home ≡ x → Conflict trace last home → out < length trace → first.enters ≡ home → first.leaves ≡ out → IsShortest trace x (first ∷ visits)
-  shortest out last home visits first r q b at zero last_at pos of c l enters leaves =
+  pub shortest : (out last back : ℕ) (visits : List Visit) (first : Visit) (r q : Reached) → Back trace reached d out last visits → reached_at reached out ≡ Some r → r.level ≡ 0 → reached_at reached last ≡ Some q → 0 < q.level → transaction trace back ≡ x → Conflict trace last back → out < length trace → first.enters ≡ back → first.leaves ≡ out → IsShortest trace x (first ∷ visits)
+  shortest out last back visits first r q b at zero last_at pos of c l enters leaves =
       let in_x = levels.at_start out r at zero in
       let one : transaction trace first.enters ≡ transaction trace out = ap (transaction trace) enters ∙ of ∙ sym in_x in
       let earlier = c.earlier in
       let v = visit_of first in
-      let home_within = slice_get_within trace home c.second c.second_at in
-      let is : IsVisit trace (length trace) v = record { enters = subst (λ k. k < length trace) (sym enters) home_within; leaves = subst (λ k. k < length trace) (sym leaves) l; one = one ∙ ap (transaction trace) (sym leaves) } in
+      let back_within = slice_get_within trace back c.second c.second_at in
+      let is : IsVisit trace (length trace) v = record { enters = subst (λ k. k < length trace) (sym enters) back_within; leaves = subst (λ k. k < length trace) (sym leaves) l; one = one ∙ ap (transaction trace) (sym leaves) } in
       let following = b.on v leaves one in
       let end = b.end v leaves in
       let last_visit_is = last_is trace (length trace) v (visits_of visits) is (goes trace v (visits_of visits) following) in

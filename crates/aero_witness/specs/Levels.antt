@@ -31,6 +31,6 @@ module _ (trace : List Numbered) (x : Transaction) (reached : List (Option Reach
         (i j k : ℕ) (r : Reached) → reached_at reached i ≡ Some r → r.level < d → Conflict trace i j
         → IsVisit trace (length trace) (visit j k) → IsForward trace (length trace) (visit j k)
         → (q : Reached) × (reached_at reached k ≡ Some q) × (q.level ≤ r.level + 1)
-    pub no_home :
+    pub no_return :
         (i j : ℕ) (r : Reached) → reached_at reached i ≡ Some r → 0 < r.level → r.level < d → transaction trace j ≡ x
         → Conflict trace i j → ⊥

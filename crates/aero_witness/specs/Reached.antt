@@ -4,7 +4,7 @@ use Rattle.aero_model.specs.declared.numbered.Numbered.{Numbered}
 use Rattle.aero_model.specs.Graph as graph
 use Rattle.aero_model.specs.Graph.{Conflict, IsVisit, IsForward}
 use Rattle.aero_witness.specs.declared.reached.Reached.{Reached}
-use Rattle.aero_witness.specs.declared.lanes.Lead.{Lead}
+use Rattle.aero_witness.specs.declared.buckets.Arrival.{Arrival}
 
 -- how the place is reached, if it is
 abbrev pub reached_at : List (Option Reached) → ℕ → Option Reached
@@ -31,10 +31,6 @@ start_at f first = if f == first then Some (record { level = 0; enters = 0; from
 pub record AreStarts (firsts : List ℕ) (first n : ℕ) (reached : List (Option Reached)) : Type 0 where
   pub each : length reached ≡ n
   pub at : (k : ℕ) → k < n → reached_at reached k ≡ start_at (slice_index_or firsts k 0) first
-
--- those of the transaction with this first place are reached with no visit before
-abbrev pub AreHome : List ℕ → ℕ → List (Option Reached) → Type 0
-AreHome firsts first reached = (k : ℕ) → slice_get firsts k ≡ Some first → (r : Reached) × (reached_at reached k ≡ Some r) × (r.level ≡ 0)
 
 -- the places of the front are those of this level
 pub record IsFront (level : ℕ) (reached : List (Option Reached)) (front : List ℕ) : Type 0 where
@@ -97,15 +93,15 @@ module _ (trace : List Numbered) where
       pub forward : IsForward trace (length trace) (visit r.enters k)
 
     -- it comes in at a place to which a noted event leads
-    abbrev pub IsLead : Lead → Type 0
-    IsLead c = (is_noted old level c.from ≡ true) × Conflict trace c.from c.enters
+    abbrev pub IsArrival : Arrival → Type 0
+    IsArrival c = (is_noted old level c.from ≡ true) × Conflict trace c.from c.enters
 
     -- what comes of these
-    pub record AreEntered (leads : List Lead) (new : List (Option Reached)) : Type 0 where
+    pub record AreEntered (arrivals : List Arrival) (new : List (Option Reached)) : Type 0 where
       pub each : length new ≡ length old
       pub kept : (k : ℕ) (r : Reached) → reached_at old k ≡ Some r → reached_at new k ≡ Some r
       pub only : (k : ℕ) (r : Reached) → reached_at new k ≡ Some r → (reached_at old k ≡ Some r) ⊎ IsNew k r
-      pub entered : (c : Lead) → Contains leads c → IsSome (reached_at new c.enters)
+      pub entered : (c : Arrival) → Contains arrivals c → IsSome (reached_at new c.enters)
       pub closed : IsClosed new
 
     -- what comes of the conflicts of noted events with any
@@ -120,12 +116,12 @@ module _ (trace : List Numbered) where
       pub closed : IsClosed new
 
   -- no noted event leads to the transaction with this first place
-  abbrev pub IsHomeless : List ℕ → ℕ → (ℕ → Bool) → Type 0
-  IsHomeless firsts first noted = (j : ℕ) → slice_get firsts j ≡ Some first → HasSource trace noted j → ⊥
+  abbrev pub HasNoWayBack : List ℕ → ℕ → (ℕ → Bool) → Type 0
+  HasNoWayBack firsts first noted = (j : ℕ) → slice_get firsts j ≡ Some first → HasSource trace noted j → ⊥
 
 -- a noted event leads to one of the transaction with this first place
-abbrev pub IsHomecoming : List Numbered → List ℕ → ℕ → (ℕ → Bool) → Lead → Type 0
-IsHomecoming trace firsts first noted c = (slice_get firsts c.enters ≡ Some first) × (noted c.from ≡ true) × Conflict trace c.from c.enters
+abbrev pub IsWayBack : List Numbered → List ℕ → ℕ → (ℕ → Bool) → Arrival → Type 0
+IsWayBack trace firsts first noted c = (slice_get firsts c.enters ≡ Some first) × (noted c.from ≡ true) × Conflict trace c.from c.enters
 
 -- none is reached with more
 abbrev pub AreAtMost : ℕ → List (Option Reached) → Type 0

@@ -2,7 +2,7 @@
 ghost use Rattle.std.specs.Prelude.{◌≡◌, ◌↔◌, ◌<◌, IsTrue};
 ghost use Rattle.aero_model.specs.Graph.{Conflict};
 ghost use Rattle.aero_model.specs.Shape.{is_fork_of, is_join_of};
-ghost use Rattle.aero_witness.specs.Deciding.{deeds_conflict, conflicting};
+ghost use Rattle.aero_model.specs.Deciding.{deeds_conflict, conflicting};
 
 use aero_model::{Numbered, What};
 

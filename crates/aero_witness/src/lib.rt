@@ -39,14 +39,14 @@
 //! places before it, 16 for how it is reached, and 8 for its transaction and the next place there.
 #![tactic(auto)]
 
+mod basis;
+mod buckets;
 mod chosen;
 mod conflict;
 mod kinds;
-mod lanes;
 pub mod laws;
 mod left;
 mod marks;
-mod quest;
 mod reached;
 mod rounds;
 pub mod search;

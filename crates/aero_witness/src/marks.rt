@@ -50,7 +50,9 @@ impl Marks {
 
     // Notes the event at this place.
     pub(crate) fn note(&mut self, event: &Numbered, place: u32) -> Result<(), AllocError>
-        ensures { OnOk result ((k : Key) → mark_of self.new k ≡ (if of_key k event.now then with_first (mark_of self.old k) place else mark_of self.old k)) }
+        ensures { OnOk result ((k : Key) →
+            mark_of self.new k ≡ (if of_key k event.now then with_first (mark_of self.old k) place
+            else mark_of self.old k)) }
     {
         put(&mut self.own, event.thread, place)?;
         note_ahead(&mut self.ahead, event, place)?;
@@ -87,7 +89,9 @@ fn first_mark(mark: Option<u32>, place: u32) -> Option<u32>
 }
 
 fn put(marks: &mut Vec<Option<u32>>, number: u32, place: u32) -> Result<(), AllocError>
-    ensures { OnOk result ((k : ℕ) → mark_at marks.new.items k ≡ (if number == k then with_first (mark_at marks.old.items k) place else mark_at marks.old.items k)) }
+    ensures { OnOk result ((k : ℕ) →
+        mark_at marks.new.items k ≡ (if number == k then with_first (mark_at marks.old.items k)
+        place else mark_at marks.old.items k)) }
 {
     let at = number as usize;
     if marks.len() <= at {
@@ -99,7 +103,9 @@ fn put(marks: &mut Vec<Option<u32>>, number: u32, place: u32) -> Result<(), Allo
 
 // A thread's events come after its fork.
 fn note_ahead(ahead: &mut Vec<Option<u32>>, event: &Numbered, place: u32) -> Result<(), AllocError>
-    ensures { OnOk result ((t : ℕ) → mark_at ahead.new.items t ≡ (if is_ahead t event.now then with_first (mark_at ahead.old.items t) place else mark_at ahead.old.items t)) }
+    ensures { OnOk result ((t : ℕ) →
+        mark_at ahead.new.items t ≡ (if is_ahead t event.now then with_first
+        (mark_at ahead.old.items t) place else mark_at ahead.old.items t)) }
 {
     put(ahead, event.thread, place)?;
     match event.what {
@@ -109,7 +115,9 @@ fn note_ahead(ahead: &mut Vec<Option<u32>>, event: &Numbered, place: u32) -> Res
 }
 
 fn note_write(writes: &mut Vec<Option<u32>>, what: What, place: u32) -> Result<(), AllocError>
-    ensures { OnOk result ((x : ℕ) → mark_at writes.new.items x ≡ (if is_write_of x what then with_first (mark_at writes.old.items x) place else mark_at writes.old.items x)) }
+    ensures { OnOk result ((x : ℕ) →
+        mark_at writes.new.items x ≡ (if is_write_of x what then with_first
+        (mark_at writes.old.items x) place else mark_at writes.old.items x)) }
 {
     match what {
         What::Write(x) => put(writes, x, place),
@@ -118,7 +126,9 @@ fn note_write(writes: &mut Vec<Option<u32>>, what: What, place: u32) -> Result<(
 }
 
 fn note_read(reads: &mut Vec<Option<u32>>, what: What, place: u32) -> Result<(), AllocError>
-    ensures { OnOk result ((x : ℕ) → mark_at reads.new.items x ≡ (if is_read_of x what then with_first (mark_at reads.old.items x) place else mark_at reads.old.items x)) }
+    ensures { OnOk result ((x : ℕ) →
+        mark_at reads.new.items x ≡ (if is_read_of x what then with_first
+        (mark_at reads.old.items x) place else mark_at reads.old.items x)) }
 {
     match what {
         What::Read(x) => put(reads, x, place),
@@ -127,7 +137,10 @@ fn note_read(reads: &mut Vec<Option<u32>>, what: What, place: u32) -> Result<(),
 }
 
 fn note_release(releases: &mut Vec<Option<u32>>, what: What, place: u32) -> Result<(), AllocError>
-    ensures { OnOk result ((l : ℕ) → mark_at releases.new.items l ≡ (if is_release_of l what then with_first (mark_at releases.old.items l) place else mark_at releases.old.items l)) }
+    ensures { OnOk result ((l : ℕ) →
+        mark_at releases.new.items l ≡
+        (if is_release_of l what then with_first (mark_at releases.old.items l) place else mark_at
+        releases.old.items l)) }
 {
     match what {
         What::Release(l) => put(releases, l, place),

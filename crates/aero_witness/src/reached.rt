@@ -1,10 +1,10 @@
 //! Places that are reached, level by level.
 ghost use Rattle.std.specs.Prelude.{◌≡◌, ◌<◌, ◌≤◌, ◌^◌, ◌==◌, ◌++◌, ◌∷◌, [], ℕ, if◌then◌else◌, length, Some, None, OnOk, IfOk, IsSome, MatchBool, ◌⊎◌};
 ghost use Rattle.aero_witness.specs.Parts.{AreOf};
-ghost use Rattle.aero_witness.specs.Quest.{AreNext, IsQuest};
+ghost use Rattle.aero_witness.specs.Basis.{AreNext, IsBasis};
 ghost use Rattle.aero_witness.specs.Reached.{is_noted, reached_at, start_at, AreStarts, IsFront, IsClosedFrom, IsClosed, IsWalked, IsFrom, IsEntered};
 
-use crate::quest::Quest;
+use crate::basis::Basis;
 use crate::telling::{first_at, has_ended};
 use crate::transactions::TransactionTable;
 use aero_model::Numbered;
@@ -94,7 +94,9 @@ pub(crate) fn front_of(
 }
 
 fn is_free(reached: &[Option<Reached>], place: u32) -> bool
-    ensures { MatchBool result ((place < length reached.now) × (reached_at reached.now place ≡ None)) ((length reached.now ≤ place) ⊎ IsSome (reached_at reached.now place)) }
+    ensures { MatchBool result ((place < length reached.now) ×
+        (reached_at reached.now place ≡ None)) ((length reached.now ≤ place) ⊎
+        IsSome (reached_at reached.now place)) }
 {
     match reached.get(place as usize) {
         Some(reached) => reached.is_none(),
@@ -106,7 +108,9 @@ fn is_free(reached: &[Option<Reached>], place: u32) -> bool
 fn reach(walks: &mut Walks, place: u32, how: Reached) -> Result<(), AllocError>
     requires { place < length walks.old.reached.items }
     ensures each { length walks.new.reached.items ≡ length walks.old.reached.items }
-    ensures at { OnOk result ((k : ℕ) → reached_at walks.new.reached.items k ≡ (if place == k then Some how else reached_at walks.old.reached.items k)) }
+    ensures at { OnOk result ((k : ℕ) →
+        reached_at walks.new.reached.items k ≡
+        (if place == k then Some how else reached_at walks.old.reached.items k)) }
     ensures front { OnOk result (walks.new.front.items ≡ walks.old.front.items ++ place ∷ []) }
 {
     walks.front.push(place)?;
@@ -115,19 +119,20 @@ fn reach(walks: &mut Walks, place: u32, how: Reached) -> Result<(), AllocError>
 }
 
 // Reaches the places of a transaction from this one on, up to one that is reached.
-fn walk(quest: &Quest, walks: &mut Walks, from: u32, how: Reached) -> Result<(), AllocError>
-    requires next { AreNext quest.now.transactions.firsts.items 0 quest.now.next.items }
-    requires each { length walks.old.reached.items ≡ length quest.now.transactions.firsts.items }
+fn walk(basis: &Basis, walks: &mut Walks, from: u32, how: Reached) -> Result<(), AllocError>
+    requires next { AreNext basis.now.transactions.firsts.items 0 basis.now.next.items }
+    requires each { length walks.old.reached.items ≡ length basis.now.transactions.firsts.items }
     requires within { from < length walks.old.reached.items }
-    requires closed { IsClosedFrom quest.now.transactions.firsts.items from walks.old.reached.items }
+    requires closed { IsClosedFrom basis.now.transactions.firsts.items from walks.old.reached.items }
     requires front { IsFront how.level walks.old.reached.items walks.old.front.items }
-    ensures walked { OnOk result (IsWalked quest.now.transactions.firsts.items from how walks.old.reached.items walks.new.reached.items) }
+    ensures walked { OnOk result (IsWalked basis.now.transactions.firsts.items from how
+        walks.old.reached.items walks.new.reached.items) }
     ensures front { OnOk result (IsFront how.level walks.new.reached.items walks.new.front.items) }
 {
     let mut place = from;
     while is_free(&walks.reached, place) {
         reach(walks, place, how)?;
-        place = quest.next[place as usize];
+        place = basis.next[place as usize];
     }
     Ok(())
 }
@@ -135,24 +140,25 @@ fn walk(quest: &Quest, walks: &mut Walks, from: u32, how: Reached) -> Result<(),
 // Reaches each place at which a walk may leave that comes in so, unless it may leave where it comes in already.
 pub(crate) fn enter(
     events: &[Numbered],
-    quest: &Quest,
+    basis: &Basis,
     walks: &mut Walks,
     how: Reached,
 ) -> Result<(), AllocError>
     requires few { length events.now < 2 ^ 32 }
-    requires quest { IsQuest events.now quest.now }
+    requires basis { IsBasis events.now basis.now }
     requires each { length walks.old.reached.items ≡ length events.now }
     requires within { how.enters < length events.now }
     requires closed { IsClosed events.now walks.old.reached.items }
     requires front { IsFront how.level walks.old.reached.items walks.old.front.items }
-    ensures entered { OnOk result (IsEntered events.now how walks.old.reached.items walks.new.reached.items) }
+    ensures entered { OnOk result (IsEntered events.now how walks.old.reached.items
+        walks.new.reached.items) }
     ensures front { OnOk result (IsFront how.level walks.new.reached.items walks.new.front.items) }
 {
     if reached_of(&walks.reached, how.enters).is_some() {
         return Ok(());
     }
-    let from = leaves_from(events, &quest.transactions, how.enters);
-    walk(quest, walks, from, how)?;
+    let from = leaves_from(events, &basis.transactions, how.enters);
+    walk(basis, walks, from, how)?;
     Ok(())
 }
 

@@ -2,14 +2,14 @@
 ghost use Rattle.std.specs.Prelude.{◌<◌, ◌+◌, ◌^◌, length, reverse, IfOk, MatchOption};
 ghost use Rattle.aero_model.specs.Blocks.{transaction};
 ghost use Rattle.aero_model.specs.Graph.{BeginsCycle};
-ghost use Rattle.aero_witness.specs.Homecoming.{ComesHome};
+ghost use Rattle.aero_witness.specs.WayBack.{ComesBack};
 ghost use Rattle.aero_witness.specs.Parts.{AreOf};
-ghost use Rattle.aero_witness.specs.Quest.{IsQuest};
+ghost use Rattle.aero_witness.specs.Basis.{IsBasis};
 ghost use Rattle.aero_witness.specs.Search.{IsAt, IsEnd};
 ghost use Rattle.aero_witness.specs.Telling.{IsTellingCycle, IsShortest, IsShortestLike};
 
-use crate::lanes::Lead;
-use crate::quest::{Quest, quest_of};
+use crate::basis::{Basis, basis_of};
+use crate::buckets::Arrival;
 use crate::reached::{Reached, reached_of};
 use crate::rounds::{Search, begin, next_round};
 use crate::telling::is_telling_cycle;
@@ -35,7 +35,8 @@ pub fn shortest_cycle(
     requires few { length events.now < 2 ^ 32 }
     requires within { begin < length events.now }
     requires begins { BeginsCycle events.now (length events.now) (transaction events.now begin) }
-    ensures { IfOk result (λ visits. IsShortest events.now (transaction events.now begin) visits.items) }
+    ensures { IfOk result (λ visits. IsShortest events.now (transaction events.now begin)
+        visits.items) }
 {
     let Shortest { visits, .. } = shortest_of(alloc, events, begin)?;
     Ok(visits)
@@ -46,12 +47,13 @@ pub fn shortest_of(alloc: Global, events: &[Numbered], begin: u32) -> Result<Sho
     requires few { length events.now < 2 ^ 32 }
     requires within { begin < length events.now }
     requires begins { BeginsCycle events.now (length events.now) (transaction events.now begin) }
-    ensures visits { IfOk result (λ shortest. IsShortest events.now (transaction events.now begin) shortest.visits.items) }
+    ensures visits { IfOk result (λ shortest. IsShortest events.now (transaction events.now begin)
+        shortest.visits.items) }
     ensures transactions { IfOk result (λ shortest. AreOf events.now shortest.transactions) }
 {
-    let quest = quest_of(alloc, events, begin)?;
-    let visits = search(alloc, events, &quest)?;
-    let Quest { transactions, .. } = quest;
+    let basis = basis_of(alloc, events, begin)?;
+    let visits = search(alloc, events, &basis)?;
+    let Basis { transactions, .. } = basis;
     Ok(Shortest {
         visits,
         transactions,
@@ -67,7 +69,9 @@ pub fn shorten(
     visits: &[Visit],
 ) -> Result<Option<Vec<Visit>>, AllocError>
     requires { length events.now < 2 ^ 32 }
-    ensures { IfOk result (λ shorter. MatchOption shorter (¬ IsTellingCycle events.now visits.now) (λ shorter. IsTellingCycle events.now visits.now × IsShortestLike events.now visits.now shorter.items)) }
+    ensures { IfOk result (λ shorter. MatchOption shorter (¬ IsTellingCycle events.now visits.now)
+        (λ shorter. IsTellingCycle events.now visits.now × IsShortestLike events.now visits.now
+        shorter.items)) }
 {
     if !is_telling_cycle(alloc, events, visits)? {
         return Ok(None);
@@ -78,51 +82,54 @@ pub fn shorten(
     }
 }
 
-// The same, by a quest from there.
-fn search(alloc: Global, events: &[Numbered], quest: &Quest) -> Result<Vec<Visit>, AllocError>
+// The same, on a basis from there.
+fn search(alloc: Global, events: &[Numbered], basis: &Basis) -> Result<Vec<Visit>, AllocError>
     requires few { length events.now < 2 ^ 32 }
-    requires quest { IsQuest events.now quest.now }
-    requires begins { BeginsCycle events.now (length events.now) (transaction events.now quest.now.begin) }
-    ensures { IfOk result (λ visits. IsShortest events.now (transaction events.now quest.now.begin) visits.items) }
+    requires basis { IsBasis events.now basis.now }
+    requires begins { BeginsCycle events.now (length events.now)
+        (transaction events.now basis.now.begin) }
+    ensures { IfOk result (λ visits. IsShortest events.now (transaction events.now basis.now.begin)
+        visits.items) }
 {
-    let mut search = begin(alloc, events, quest)?;
-    let home = last_round(alloc, events, quest, &mut search)?;
-    let homecoming = Homecoming {
-        begin: quest.begin,
+    let mut search = begin(alloc, events, basis)?;
+    let arrival = last_round(alloc, events, basis, &mut search)?;
+    let way_back = WayBack {
+        begin: basis.begin,
         level: search.level,
-        home: home.enters,
-        out: home.from,
+        back: arrival.enters,
+        out: arrival.from,
     };
-    walk_back(alloc, events, &search.walks.reached, homecoming)
+    walk_back(alloc, events, &search.walks.reached, way_back)
 }
 
-// The last round, in which a walk comes home.
+// The last round, in which a walk comes back.
 fn last_round(
     alloc: Global,
     events: &[Numbered],
-    quest: &Quest,
+    basis: &Basis,
     search: &mut Search,
-) -> Result<Lead, AllocError>
+) -> Result<Arrival, AllocError>
     requires few { length events.now < 2 ^ 32 }
-    requires quest { IsQuest events.now quest.now }
-    requires begins { BeginsCycle events.now (length events.now) (transaction events.now quest.now.begin) }
-    requires at { IsAt events.now quest.now search.old }
-    ensures { IfOk result (IsEnd events.now quest.now search.new) }
+    requires basis { IsBasis events.now basis.now }
+    requires begins { BeginsCycle events.now (length events.now)
+        (transaction events.now basis.now.begin) }
+    requires at { IsAt events.now basis.now search.old }
+    ensures { IfOk result (IsEnd events.now basis.now search.new) }
 {
     loop {
-        if let Some(home) = next_round(alloc, events, quest, search)? {
-            return Ok(home);
+        if let Some(arrival) = next_round(alloc, events, basis, search)? {
+            return Ok(arrival);
         }
     }
 }
 
-// Where a walk comes back to the transaction of the event at `begin`: at the place `home`, from the event at the place
+// Where a walk comes back to the transaction of the event at `begin`: at the place `back`, from the event at the place
 // `out`, which is reached with so many visits before.
 #[derive(Clone, Copy)]
-struct Homecoming {
+struct WayBack {
     begin: u32,
     level: u32,
-    home: u32,
+    back: u32,
     out: u32,
 }
 
@@ -131,12 +138,13 @@ fn walk_back(
     alloc: Global,
     events: &[Numbered],
     reached: &[Option<Reached>],
-    homecoming: Homecoming,
+    way_back: WayBack,
 ) -> Result<Vec<Visit>, AllocError>
-    requires { ComesHome events.now reached.now homecoming }
-    ensures { IfOk result (λ visits. IsShortest events.now (transaction events.now homecoming.begin) visits.items) }
+    requires { ComesBack events.now reached.now way_back }
+    ensures { IfOk result (λ visits. IsShortest events.now (transaction events.now way_back.begin)
+        visits.items) }
 {
-    let mut visits = visits_back(alloc, events, reached, homecoming)?;
+    let mut visits = visits_back(alloc, events, reached, way_back)?;
     visits.reverse();
     Ok(visits)
 }
@@ -146,16 +154,17 @@ fn visits_back(
     alloc: Global,
     events: &[Numbered],
     reached: &[Option<Reached>],
-    homecoming: Homecoming,
+    way_back: WayBack,
 ) -> Result<Vec<Visit>, AllocError>
-    requires { ComesHome events.now reached.now homecoming }
-    ensures { IfOk result (λ visits. IsShortest events.now (transaction events.now homecoming.begin) (reverse visits.items)) }
+    requires { ComesBack events.now reached.now way_back }
+    ensures { IfOk result (λ visits. IsShortest events.now (transaction events.now way_back.begin)
+        (reverse visits.items)) }
 {
     let mut visits = Vec::new(alloc);
-    let mut leaves = homecoming.out;
+    let mut leaves = way_back.out;
     while let Some(step) = reached_of(reached, leaves) {
         if step.level == 0 {
-            let enters = homecoming.home;
+            let enters = way_back.back;
             visits.push(Visit { enters, leaves })?;
             return Ok(visits);
         }

@@ -46,7 +46,8 @@ fn goes_round(
     rest: &[Visit],
 ) -> bool
     requires { AreOf events.now transactions.now }
-    ensures { IsTrue result ↔ IsTelling events.now (length events.now) (visit_of first) (visits_of rest.now) }
+    ensures { IsTrue result ↔ IsTelling events.now (length events.now) (visit_of first)
+        (visits_of rest.now) }
 {
     if !is_visit(events, transactions, first) {
         return false;
@@ -66,7 +67,10 @@ fn last_of(
 ) -> Option<Visit>
     requires of { AreOf events.now transactions.now }
     requires is { IsVisit events.now (length events.now) (visit_of first) }
-    ensures { MatchOption result (¬ AreFollowing events.now (visit_of first) (visits_of rest.now)) (λ last. AreFollowing events.now (visit_of first) (visits_of rest.now) × IsVisit events.now (length events.now) (visit_of last) × (visit_of last ≡ last_visit (visit_of first) (visits_of rest.now))) }
+    ensures { MatchOption result (¬ AreFollowing events.now (visit_of first) (visits_of rest.now))
+        (λ last. AreFollowing events.now (visit_of first) (visits_of rest.now) ×
+        IsVisit events.now (length events.now) (visit_of last) ×
+        (visit_of last ≡ last_visit (visit_of first) (visits_of rest.now))) }
 {
     let mut last = first;
     for visit in rest {
@@ -100,7 +104,8 @@ fn closes(events: &[Numbered], transactions: &TransactionTable, last: Visit, fir
     requires of { AreOf events.now transactions.now }
     requires last { IsVisit events.now (length events.now) (visit_of last) }
     requires first { IsVisit events.now (length events.now) (visit_of first) }
-    ensures { IsTrue result ↔ (Conflict events.now last.leaves first.enters × (transaction events.now last.enters ≢ transaction events.now first.enters)) }
+    ensures { IsTrue result ↔ (Conflict events.now last.leaves first.enters ×
+        (transaction events.now last.enters ≢ transaction events.now first.enters)) }
 {
     conflict(events, last.leaves, first.enters) && are_apart(events, transactions, last, first)
 }
@@ -136,7 +141,8 @@ fn are_apart(
     requires of { AreOf events.now transactions.now }
     requires first { first.enters < length events.now }
     requires second { second.enters < length events.now }
-    ensures { IsTrue result ↔ (transaction events.now first.enters ≢ transaction events.now second.enters) }
+    ensures { IsTrue result ↔ (transaction events.now first.enters ≢ transaction events.now
+        second.enters) }
 {
     !is_one(events, transactions, first.enters, second.enters)
 }

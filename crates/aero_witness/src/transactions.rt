@@ -38,8 +38,11 @@ pub fn transactions_of(alloc: Global, events: &[Numbered]) -> Result<Transaction
 fn step(nests: &mut Vec<Nest>, event: &Numbered, place: u32) -> Result<u32, AllocError>
     requires room { place + 1 < 2 ^ 32 }
     requires depths { (t : ℕ) → (nest_at nests.old.items t).depth ≤ place }
-    ensures first { IfOk result (λ first. first ≡ first_with place (nest_at nests.old.items event.now.thread)) }
-    ensures nests { OnOk result ((t : ℕ) → nest_at nests.new.items t ≡ (if event.now.thread == t then nest_after event.now.what place (nest_at nests.old.items t) else nest_at nests.old.items t)) }
+    ensures first { IfOk result (λ first. first ≡
+        first_with place (nest_at nests.old.items event.now.thread)) }
+    ensures nests { OnOk result ((t : ℕ) →
+        nest_at nests.new.items t ≡ (if event.now.thread == t then nest_after event.now.what place
+        (nest_at nests.old.items t) else nest_at nests.old.items t)) }
 {
     let before = nest_of(nests, event.thread);
     put(nests, event.thread, after(before, event.what, place))?;
@@ -88,7 +91,8 @@ pub(crate) fn nest_of(nests: &[Nest], thread: u32) -> Nest
 }
 
 fn put(nests: &mut Vec<Nest>, thread: u32, nest: Nest) -> Result<(), AllocError>
-    ensures { OnOk result ((t : ℕ) → nest_at nests.new.items t ≡ (if thread == t then nest else nest_at nests.old.items t)) }
+    ensures { OnOk result ((t : ℕ) →
+        nest_at nests.new.items t ≡ (if thread == t then nest else nest_at nests.old.items t)) }
 {
     let at = thread as usize;
     if nests.len() <= at {

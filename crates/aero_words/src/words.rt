@@ -46,7 +46,8 @@ pub fn settle_words(alloc: Global, words: &[String]) -> Result<Config, Refused>
 
 fn matches_of<'a>(alloc: Global, words: &'a [String]) -> Result<ArgMatches<'a>, Refused>
     ensures read { IfOk result (λ m. IsRead (found_of m)) }
-    ensures rows { IfOk result (λ m. rows_of (found_of m) ≡ rows_given (map string_bytes words.entry.now)) }
+    ensures rows { IfOk result (λ m. rows_of (found_of m) ≡
+        rows_given (map string_bytes words.entry.now)) }
 {
     let line = command_line(alloc)?;
     match line.try_get_matches_from(words) {
@@ -271,10 +272,13 @@ fn settle(alloc: Global, matches: &ArgMatches<'_>) -> Result<Config, Refused>
 
 // The labels of blocks that are no transactions, and those of the only ones that are: not both.
 fn labels_in(alloc: Global, matches: &ArgMatches<'_>) -> Result<(Vec<Name>, Vec<Name>), Refused>
-    ensures except { IfOk result (λ both. both.0.items ≡ texts_told (all_of (codes "except") (rows_of (found_of matches.now)))) }
-    ensures only { IfOk result (λ both. both.1.items ≡ texts_told (all_of (codes "only") (rows_of (found_of matches.now)))) }
+    ensures except { IfOk result (λ both. both.0.items ≡
+        texts_told (all_of (codes "except") (rows_of (found_of matches.now)))) }
+    ensures only { IfOk result (λ both. both.1.items ≡
+        texts_told (all_of (codes "only") (rows_of (found_of matches.now)))) }
     ensures few { IfOk result (λ both. (vec_len both.0 ≤ 64) × (vec_len both.1 ≤ 64)) }
-    ensures apart { IfOk result (λ both. (nat_lt 0 (vec_len both.0) && nat_lt 0 (vec_len both.1)) ≡ false) }
+    ensures apart { IfOk result (λ both. (nat_lt 0 (vec_len both.0) && nat_lt 0 (vec_len both.1)) ≡
+        false) }
 {
     let except = matches.get_strs("except").unwrap_or(&[]);
     let only = matches.get_strs("only").unwrap_or(&[]);
@@ -292,12 +296,20 @@ fn label_files_in(
     only: &[Name],
 ) -> Result<(Vec<String>, Vec<String>), Refused>
     requires { (nat_lt 0 (length except.now) && nat_lt 0 (length only.now)) ≡ false }
-    ensures except { IfOk result (λ both. map string_bytes both.0.items ≡ texts_told (all_of (codes "except-from") (rows_of (found_of matches.now)))) }
-    ensures only { IfOk result (λ both. map string_bytes both.1.items ≡ texts_told (all_of (codes "only-from") (rows_of (found_of matches.now)))) }
-    ensures except_files { IfOk result (λ both. list_any is_dash (texts_told (all_of (codes "except-from") (rows_of (found_of matches.now)))) ≡ false) }
-    ensures only_files { IfOk result (λ both. list_any is_dash (texts_told (all_of (codes "only-from") (rows_of (found_of matches.now)))) ≡ false) }
+    ensures except { IfOk result (λ both. map string_bytes both.0.items ≡
+        texts_told (all_of (codes "except-from") (rows_of (found_of matches.now)))) }
+    ensures only { IfOk result (λ both. map string_bytes both.1.items ≡
+        texts_told (all_of (codes "only-from") (rows_of (found_of matches.now)))) }
+    ensures except_files { IfOk result
+        (λ both. list_any is_dash (texts_told
+        (all_of (codes "except-from") (rows_of (found_of matches.now)))) ≡ false) }
+    ensures only_files { IfOk result
+        (λ both. list_any is_dash (texts_told
+        (all_of (codes "only-from") (rows_of (found_of matches.now)))) ≡ false) }
     ensures few { IfOk result (λ both. (vec_len both.0 ≤ 64) × (vec_len both.1 ≤ 64)) }
-    ensures apart { IfOk result (λ both. ((nat_lt 0 (length except.now) || nat_lt 0 (vec_len both.0)) && (nat_lt 0 (length only.now) || nat_lt 0 (vec_len both.1))) ≡ false) }
+    ensures apart { IfOk result (λ both.
+        ((nat_lt 0 (length except.now) || nat_lt 0 (vec_len both.0)) &&
+        (nat_lt 0 (length only.now) || nat_lt 0 (vec_len both.1))) ≡ false) }
 {
     let except_from = matches.get_strs("except-from").unwrap_or(&[]);
     let only_from = matches.get_strs("only-from").unwrap_or(&[]);
@@ -315,7 +327,9 @@ fn mixed_text(
     only_from: &[&str],
 ) -> Option<&'static str>
     requires { (nat_lt 0 (length except.now) && nat_lt 0 (length only.now)) ≡ false }
-    ensures { result ≡ None → ((nat_lt 0 (length except.now) || nat_lt 0 (length except_from.now)) && (nat_lt 0 (length only.now) || nat_lt 0 (length only_from.now))) ≡ false }
+    ensures { result ≡ None → ((nat_lt 0 (length except.now) || nat_lt 0
+        (length except_from.now)) && (nat_lt 0 (length only.now) || nat_lt 0
+        (length only_from.now))) ≡ false }
 {
     if !only.is_empty() && !except_from.is_empty() {
         return Some(help::ONLY_WITH_EXCEPT_FROM);
@@ -331,7 +345,8 @@ fn mixed_text(
 
 // The paths that the texts are: at most 64, and not standard input.
 fn paths_of(alloc: Global, texts: &[&str]) -> Result<Vec<String>, Refused>
-    ensures same { IfOk result (λ all. map string_bytes all.items ≡ map (λ text. text.now) texts.now) }
+    ensures same { IfOk result (λ all. map string_bytes all.items ≡
+        map (λ text. text.now) texts.now) }
     ensures files { IfOk result (λ all. list_any is_dash (map (λ text. text.now) texts.now) ≡ false) }
     ensures few { IfOk result (λ all. vec_len all ≤ 64) }
     ensures len { IfOk result (λ all. vec_len all ≡ length texts.now) }
@@ -470,8 +485,10 @@ fn flag_in(matches: &ArgMatches<'_>, name: &str) -> bool
 fn order_and_long_in(alloc: Global, matches: &ArgMatches<'_>) -> Result<(bool, bool), Refused>
     requires order { ReadsFlag (found_of matches.now) (codes "order") }
     requires long { ReadsFlag (found_of matches.now) (codes "long") }
-    ensures order { IfOk result (λ both. both.0 ≡ is_told (one_of (codes "order") (rows_of (found_of matches.now)))) }
-    ensures long { IfOk result (λ both. both.1 ≡ is_told (one_of (codes "long") (rows_of (found_of matches.now)))) }
+    ensures order { IfOk result (λ both. both.0 ≡
+        is_told (one_of (codes "order") (rows_of (found_of matches.now)))) }
+    ensures long { IfOk result (λ both. both.1 ≡
+        is_told (one_of (codes "long") (rows_of (found_of matches.now)))) }
     ensures apart { IfOk result (λ both. (both.1 && both.0) ≡ false) }
 {
     let order = flag_in(matches, "order");
@@ -485,7 +502,8 @@ fn order_and_long_in(alloc: Global, matches: &ArgMatches<'_>) -> Result<(bool, b
 // Whether open blocks are to end: not where the files stand in a list.
 fn end_in(alloc: Global, matches: &ArgMatches<'_>, sources: &Sources) -> Result<bool, Refused>
     requires { ReadsFlag (found_of matches.now) (codes "end") }
-    ensures told { IfOk result (λ end. end ≡ is_told (one_of (codes "end") (rows_of (found_of matches.now)))) }
+    ensures told { IfOk result (λ end. end ≡
+        is_told (one_of (codes "end") (rows_of (found_of matches.now)))) }
     ensures apart { IfOk result (λ end. (end && not (are_counted sources.now)) ≡ false) }
 {
     let end = flag_in(matches, "end");
@@ -510,7 +528,10 @@ fn conflict_error(alloc: Global, text: &'static str) -> Result<Error, AllocError
 
 // What is to be judged.
 fn sources_in(alloc: Global, matches: &ArgMatches<'_>) -> Result<Sources, Refused>
-    ensures asked { IfOk result (λ sources. AreAskedFor sources (texts_told (all_of (codes "files") (rows_of (found_of matches.now)))) (first_of (codes "files0-from") (rows_of (found_of matches.now))) (first_of (codes "label") (rows_of (found_of matches.now)))) }
+    ensures asked { IfOk result (λ sources.
+        AreAskedFor sources (texts_told (all_of (codes "files") (rows_of (found_of matches.now))))
+        (first_of (codes "files0-from") (rows_of (found_of matches.now)))
+        (first_of (codes "label") (rows_of (found_of matches.now)))) }
     ensures few { IfOk result (λ sources. count_named sources ≤ 2 ^ 16) }
 {
     let words = matches.get_strs("files").unwrap_or(&[]);
@@ -526,7 +547,8 @@ fn sources_asked(
     list: Option<&str>,
     name: Option<&str>,
 ) -> Result<Sources, Refused>
-    ensures asked { IfOk result (λ sources. AreAskedFor sources (map (λ text. text.now) words.now) (option_map (λ text. text.now) list.entry) (option_map (λ text. text.now) name.entry)) }
+    ensures asked { IfOk result (λ sources. AreAskedFor sources (map (λ text. text.now) words.now)
+        (option_map (λ text. text.now) list.entry) (option_map (λ text. text.now) name.entry)) }
     ensures few { IfOk result (λ sources. count_named sources ≤ 2 ^ 16) }
 {
     match (words.is_empty(), list, name) {
@@ -543,7 +565,8 @@ fn sources_asked(
 // The files of these words.
 fn files_asked(alloc: Global, given: &[&str]) -> Result<Sources, Refused>
     requires { 0 < length given.now }
-    ensures asked { IfOk result (λ sources. AreAskedFor sources (map (λ text. text.now) given.now) None None) }
+    ensures asked { IfOk result (λ sources. AreAskedFor sources (map (λ text. text.now) given.now)
+        None None) }
     ensures few { IfOk result (λ sources. count_named sources ≤ 2 ^ 16) }
 {
     if given.len() > MOST_FILES {
@@ -554,7 +577,9 @@ fn files_asked(alloc: Global, given: &[&str]) -> Result<Sources, Refused>
 
 // The form of the report. A word that names none is refused.
 fn form_in(alloc: Global, matches: &ArgMatches<'_>) -> Result<Form, Refused>
-    ensures { IfOk result (λ form. form_told (texts_told (all_of (codes "format") (rows_of (found_of matches.now)))) ≡ Some form) }
+    ensures { IfOk result (λ form.
+        form_told (texts_told (all_of (codes "format") (rows_of (found_of matches.now)))) ≡
+        Some form) }
 {
     let texts = matches.get_strs("format").unwrap_or(&[]);
     if let Some(form) = first_form(texts) {
@@ -597,7 +622,8 @@ fn no_form(alloc: Global) -> Result<Error, AllocError> {
 fn progress_in(matches: &ArgMatches<'_>) -> Progress
     requires progress { ReadsFlag (found_of matches.now) (codes "progress") }
     requires quiet { ReadsFlag (found_of matches.now) (codes "quiet") }
-    ensures { result ≡ progress_told (is_told (one_of (codes "quiet") (rows_of (found_of matches.now))))
+    ensures { result ≡ progress_told
+        (is_told (one_of (codes "quiet") (rows_of (found_of matches.now))))
         (is_told (one_of (codes "progress") (rows_of (found_of matches.now)))) }
 {
     progress_of(flag_in(matches, "quiet"), flag_in(matches, "progress"))
@@ -617,7 +643,8 @@ fn progress_of(is_quiet: bool, is_wanted: bool) -> Progress
 
 // Copies of the texts.
 fn owned(alloc: Global, texts: &[&str]) -> Result<Vec<String>, AllocError>
-    ensures same { IfOk result (λ all. map string_bytes all.items ≡ map (λ text. text.now) texts.now) }
+    ensures same { IfOk result (λ all. map string_bytes all.items ≡
+        map (λ text. text.now) texts.now) }
     ensures len { IfOk result (λ all. vec_len all ≡ length texts.now) }
 {
     let mut all = Vec::new(alloc);

@@ -38,7 +38,10 @@ fn take_all_back<R: Wait>(rt: &R, poster: &mut Poster, left: &mut Vec<u64>)
     requires same { left.old.items ≡ map number_of poster.old.desk.back }
     ensures room { vec_len left.new + poster.new.desk.bound ≤ vec_capacity left.new }
     ensures same { left.new.items ≡ map number_of poster.new.desk.back }
-    ensures rest { poster.new ≡ record poster.old { desk = record poster.old.desk { back = poster.new.desk.back; bound = poster.new.desk.bound } } }
+    ensures rest { poster.new ≡ record poster.old {
+      desk = record poster.old.desk
+          { back = poster.new.desk.back; bound = poster.new.desk.bound };
+    } }
     ensures settled { IsSettled poster.new }
 {
     loop {
@@ -51,7 +54,8 @@ fn take_all_back<R: Wait>(rt: &R, poster: &mut Poster, left: &mut Vec<u64>)
 
 // Posts a stop, once there is a place for it.
 fn stop_one<R: Wait>(rt: &R, poster: &mut Poster)
-    ensures { poster.new ≡ record poster.old { desk = record poster.old.desk { stops = poster.new.desk.stops } } }
+    ensures { poster.new ≡ record poster.old
+        { desk = record poster.old.desk { stops = poster.new.desk.stops } } }
 {
     for _ in rt.forever() {
         if poster.stop(rt) {
@@ -63,7 +67,8 @@ fn stop_one<R: Wait>(rt: &R, poster: &mut Poster)
 
 // Posts so many stops.
 fn stop_all<R: Wait>(rt: &R, poster: &mut Poster, count: usize)
-    ensures { poster.new ≡ record poster.old { desk = record poster.old.desk { stops = poster.new.desk.stops } } }
+    ensures { poster.new ≡ record poster.old
+        { desk = record poster.old.desk { stops = poster.new.desk.stops } } }
 {
     for _ in 0..count {
         stop_one(rt, poster);
@@ -83,7 +88,10 @@ fn join_all<R: Threads>(
     ensures count { vec_len by_worker.new ≡ vec_len by_worker.old + vec_len running }
     ensures tells { Tells (lists_of by_worker.new.items) poster.new.desk.kept }
     ensures takers { poster.new.desk.takers ≡ poster.old.desk.takers - vec_len running }
-    ensures rest { poster.new ≡ record poster.old { desk = record poster.old.desk { kept = poster.new.desk.kept; takers = poster.new.desk.takers } } }
+    ensures rest { poster.new ≡ record poster.old {
+      desk = record poster.old.desk
+          { kept = poster.new.desk.kept; takers = poster.new.desk.takers };
+    } }
 {
     let mut running = running;
     while let Some(handle) = running.pop() {
@@ -235,7 +243,8 @@ impl Crew {
     /// posted before. Where 64 replies and one for each worker are still to be received, a worker waits
     /// with its reply and takes no job meanwhile.
     pub fn post<R: Wait>(&mut self, rt: &R, job: Job) -> Result<(), Full>
-        ensures posted { OnOk result (self.new ≡ record self.old { posted = self.old.posted ++ job.number ∷ [] }) }
+        ensures posted { OnOk result (self.new ≡
+            record self.old { posted = self.old.posted ++ job.number ∷ [] }) }
         ensures full { IfErr result (λ full. (full.job ≡ job) × (self.new ≡ self.old)) }
         ensures places { OnErr result (64 ≤ length self.old.posted) }
     {
@@ -271,9 +280,11 @@ impl Crew {
     /// freed by then.
     pub fn close<R: Threads + Wait>(self, rt: &R) -> CrewReport
         ensures workers { vec_len result.by_worker ≡ self.workers }
-        ensures each { (n : ℕ) → sum_by (λ list. times n list.items) result.by_worker.items + times n result.left.items ≡ times n self.posted }
+        ensures each { (n : ℕ) → sum_by (λ list. times n list.items) result.by_worker.items + times
+            n result.left.items ≡ times n self.posted }
         ensures left { IsSubsequence result.left.items self.posted }
-        ensures by_worker { All (λ list. IsSubsequence list.items self.posted) result.by_worker.items }
+        ensures by_worker { All (λ list. IsSubsequence list.items self.posted)
+            result.by_worker.items }
     {
         let Crew {
             mut poster,

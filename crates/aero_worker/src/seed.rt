@@ -61,7 +61,8 @@ pub(crate) fn make_seeds<G: Gate + Drop>(
 ) -> Result<Vec<Seed<G>>, AllocError>
     requires { All (λ taker. taker ≡ new_taker poster.now.stage) takers.items }
     ensures count { IfOk result (λ seeds. vec_len seeds ≡ vec_len takers) }
-    ensures takers { IfOk result (λ seeds. All (λ seed. seed.taker ≡ new_taker poster.now.stage) seeds.items) }
+    ensures takers { IfOk result (λ seeds. All (λ seed. seed.taker ≡ new_taker poster.now.stage)
+        seeds.items) }
 {
     let mut takers = takers;
     let mut seeds = Vec::with_capacity(alloc, takers.len())?;
@@ -80,18 +81,26 @@ pub(crate) fn hire<G: Gate + Drop + 'static, R: Threads + Wait + Copy + Send + '
     seed: Seed<G>,
 )
     requires seed { seed.taker ≡ new_taker staff.old.poster.stage }
-    requires stage { All (λ h. h.promise.0.value.stage ≡ staff.old.poster.stage) staff.old.running.items }
+    requires stage { All (λ h. h.promise.0.value.stage ≡ staff.old.poster.stage)
+        staff.old.running.items }
     requires tells { Tells (lists_of staff.old.by_worker.items) staff.old.poster.desk.kept }
     requires takers { 0 < staff.old.poster.desk.takers }
     requires handles { vec_len staff.old.running < vec_capacity staff.old.running }
     requires lists { vec_len staff.old.by_worker < vec_capacity staff.old.by_worker }
-    ensures stage { All (λ h. h.promise.0.value.stage ≡ staff.old.poster.stage) staff.new.running.items }
+    ensures stage { All (λ h. h.promise.0.value.stage ≡ staff.old.poster.stage)
+        staff.new.running.items }
     ensures tells { Tells (lists_of staff.new.by_worker.items) staff.new.poster.desk.kept }
-    ensures takers { staff.new.poster.desk.takers + vec_len staff.old.running + 1 ≡ staff.old.poster.desk.takers + vec_len staff.new.running }
-    ensures few { vec_len staff.new.running + vec_len staff.new.by_worker ≤ vec_len staff.old.running + vec_len staff.old.by_worker + 1 }
+    ensures takers { staff.new.poster.desk.takers + vec_len staff.old.running + 1 ≡
+        staff.old.poster.desk.takers + vec_len staff.new.running }
+    ensures few { vec_len staff.new.running + vec_len staff.new.by_worker ≤ vec_len
+        staff.old.running + vec_len staff.old.by_worker + 1 }
     ensures handles { vec_capacity staff.new.running ≡ vec_capacity staff.old.running }
     ensures lists { vec_capacity staff.new.by_worker ≡ vec_capacity staff.old.by_worker }
-    ensures rest { staff.new.poster ≡ record staff.old.poster { desk = record staff.old.poster.desk { kept = staff.new.poster.desk.kept; takers = staff.new.poster.desk.takers } } }
+    ensures rest { staff.new.poster ≡
+        record staff.old.poster {
+          desk = record staff.old.poster.desk
+              { kept = staff.new.poster.desk.kept; takers = staff.new.poster.desk.takers };
+        } }
 {
     let Seed { taker, tools, flag } = seed;
     let promise = Honest(Snapshot::of(&taker));

@@ -186,7 +186,13 @@ fn run_few<
         alloc: rt.alloc(),
         form: plan.form,
     };
-    report.cause = sum_up(style, plan.options(), &report.counts, report.cause, writer);
+    report.cause = sum_up(
+        style,
+        plan.options(),
+        &report.told.counts,
+        report.cause,
+        writer,
+    );
     Ok((report, sources))
 }
 
@@ -202,9 +208,9 @@ fn plan_with(alloc: Global, workers: u32) -> Result<Plan, Fail> {
 
 // Whether a run in lanes told the same as a run in turn.
 fn is_told_so(report: &Report, outcome: &Outcome) -> bool {
-    report.endings == outcome.endings
-        && report.notables == outcome.notables
-        && report.counts == outcome.counts
+    report.told.endings == outcome.endings
+        && report.told.notables == outcome.notables
+        && report.told.counts == outcome.counts
         && report.cause == outcome.cause
 }
 
@@ -333,7 +339,7 @@ fn is_cut_in_lanes<T: AllocGlobal + Threads + Wait + Copy + Send + Sync + 'stati
     let (writer, report, names) = in_lanes(rt, texts, row.0, (writer, 2))?;
     Ok(
         writer.taken.as_slice() == front
-            && report.endings.len() == lines_in(front)
+            && report.told.endings.len() == lines_in(front)
             && report.cause == Some(Cause::Write)
             && names.as_slice() == row.1.as_bytes(),
     )

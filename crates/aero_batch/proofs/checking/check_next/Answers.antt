@@ -21,6 +21,6 @@ returns g c =
       checked = refl;
       read = refl;
       intake = refl;
-      blocks = refl;
+      chunks = refl;
       ended = refl;
     }

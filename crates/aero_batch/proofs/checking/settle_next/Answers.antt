@@ -20,6 +20,6 @@ returns g c =
       read = refl;
       checked = refl;
       intake = refl;
-      blocks = refl;
+      chunks = refl;
       ended = refl;
     }) c.give_value.ensures

@@ -18,4 +18,4 @@ pub returns-in-Some-take_found-clause-found : goal.returns-in-Some-take_found-cl
 returns-in-Some-take_found-clause-found g c =
     let found = c.in-Some-take_found.ensures.found in
     track_tells (terms_of c.args.setting.now.plan.now) (map (sighted g.R.Followed.sight) c.args.sources.now) (map (sighted g.R.Followed.sight) c.steps.sources)
-    c.steps.underway c.steps.invariant 0 found.0 c.in-Some-take_found.track found.1 found.2
+    c.steps.underway c.steps.invariant 0 found.0 c.in-Some-take_found.found found.1

@@ -10,7 +10,7 @@ returns-in-Ok g c =
     let words = c.args.are_words in
     let report = c.args.report.now in
     let sources = c.args.sources.now in
-    let given : List (ℕ × Ending) = if c.args.long then [] else report.endings.items in
+    let given : List (ℕ × Ending) = if c.args.long then [] else report.told.endings.items in
     let notes = map note_of c.in-Ok.notes.items in
     subst (λ faults. AreNotes g.G.Opener.holds (noted_of_all input_of unused_in words sources given faults) notes) c.deref-2.ensures.value
     (subst (λ endings. AreNotes g.G.Opener.holds (noted_of_all input_of unused_in words sources endings c.deref-2.result.now) notes)

@@ -4,7 +4,7 @@ use Rattle.aero_model.specs.CallCounts.{seen_by}
 use Rattle.aero_model.specs.Exempt.{Listed}
 use Rattle.aero_model.specs.declared.verdict.Ending.{Ending}
 use Rattle.std.specs.IoError.{error_kind}
-use Rattle.aero_verdict.specs.Finding.{asking}
+use Rattle.aero_model.specs.Terms.{asking}
 use Rattle.aero_batch.specs.Founds.{sighted, whose}
 use Rattle.aero_batch.proofs.Stands.{summed}
 use Rattle.aero_intake.specs.PlanTerms.{terms_of}
@@ -60,24 +60,24 @@ returns g c =
     let before = shown_by g.O.Write.contents c.args.output.now in
     let mid = seen_by (λ w. g.O.Write.contents (written_by w)) c.run_all-report.new.writer in
     let after = seen_by (λ w. g.O.Write.contents (written_by w)) c.sum_up_with-cause.new.writer in
-    let noted_endings : List (ℕ × Ending) = if config.long then [] else report.endings.items in
-    let noted = noted_of_all input_of unused_in words left noted_endings report.notables.items in
+    let noted_endings : List (ℕ × Ending) = if config.long then [] else report.told.endings.items in
+    let noted = noted_of_all input_of unused_in words left noted_endings report.told.notables.items in
     let labels_are : c.labels.result.now ≡ labels = c.labels.ensures ∙ ap (λ (l : Listed). l.labels) (c.except.ensures ∙ c.in-Ok.ensures.except) in
-    let listed_are : c.told_of-labels.result.now ≡ (if all_read report.cause report.endings.items then labels else []) =
+    let listed_are : c.told_of-labels.result.now ≡ (if all_read report.cause report.told.endings.items then labels else []) =
     c.told_of-labels.ensures ∙ ap (λ b. if b then c.labels.result.now else []) (c.all_read.ensures ∙ ap (all_read report.cause) c.deref-3.ensures.value)
-    ∙ ap (λ ls. if all_read report.cause report.endings.items then ls else []) labels_are in
-    let found = found_labels input_of unused_in unused (λ u. map (λ label. label.now) u.items) report.cause report.endings.items words left noted_endings report.notables.items c.told_of-labels.result.now labels
+    ∙ ap (λ ls. if all_read report.cause report.told.endings.items then ls else []) labels_are in
+    let found = found_labels input_of unused_in unused (λ u. map (λ label. label.now) u.items) report.cause report.told.endings.items words left noted_endings report.told.notables.items c.told_of-labels.result.now labels
     (subst (λ l. IfSome unused (λ u. map (λ label. label.now) u.items ≡ missing_in_each (map (λ s. unused_in s.reader) l) c.told_of-labels.result.now)) c.deref-4.ensures.value c.unused_labels-unused.ensures) listed_are in
-    let told = told_as input_of unused_in g.F.Opener.holds (λ ns. map note_of ns.items) c.are_words.result words left noted_endings report.notables.items
+    let told = told_as input_of unused_in g.F.Opener.holds (λ ns. map note_of ns.items) c.are_words.result words left noted_endings report.told.notables.items
     (c.are_words.ensures ∙ ap are_words asked_is) c.all_notes-notes.result
-    (subst (λ l. IfSome c.all_notes-notes.result (λ ns. AreNotes g.F.Opener.holds (noted_of_all input_of unused_in c.are_words.result l noted_endings report.notables.items) (map note_of ns.items))) c.deref-5.ensures.value c.all_notes-notes.ensures) in
+    (subst (λ l. IfSome c.all_notes-notes.result (λ ns. AreNotes g.F.Opener.holds (noted_of_all input_of unused_in c.are_words.result l noted_endings report.told.notables.items) (map note_of ns.items))) c.deref-5.ensures.value c.all_notes-notes.ensures) in
     let notes : List Note = notes_on told.remarks in
-    let text : List (List ℕ) → List Note → List ℕ = λ ls ns. summary_line_in form (options_told config terms ls ns) report.counts in
-    let sums = summed_beside unused (λ u. map (λ label. label.now) u.items) c.all_notes-notes.result (λ ns. map note_of ns.items) text (labels_told None report.endings.items noted labels) notes
+    let text : List (List ℕ) → List Note → List ℕ = λ ls ns. summary_line_in form (options_told config terms ls ns) report.told.counts in
+    let sums = summed_beside unused (λ u. map (λ label. label.now) u.items) c.all_notes-notes.result (λ ns. map note_of ns.items) text (labels_told None report.told.endings.items noted labels) notes
     report.cause cause mid after found told.told c.sum_up_with-cause.ensures.summed in
-    let run = summed terms form (summary_line_in form (options_told config terms (labels_told None report.endings.items noted labels) notes)) (map (sighted sight) c.in-Ok-sources_of.gathered.sources.items) (map (sighted sight) left)
-    before.writer mid after report.endings.items report.notables.items report.counts report.cause cause c.run_all-report.ensures.told sums in
-    let labels_are_told = told_labels input_of unused_in unused (λ u. u.items) (λ label. label.now) c.told_after-told.result.now report.cause cause report.endings.items words left noted_endings report.notables.items labels
+    let run = summed terms form (summary_line_in form (options_told config terms (labels_told None report.told.endings.items noted labels) notes)) (map (sighted sight) c.in-Ok-sources_of.gathered.sources.items) (map (sighted sight) left)
+    before.writer mid after report.told.endings.items report.told.notables.items report.told.counts report.cause cause c.run_all-report.ensures.told sums in
+    let labels_are_told = told_labels input_of unused_in unused (λ u. u.items) (λ label. label.now) c.told_after-told.result.now report.cause cause report.told.endings.items words left noted_endings report.told.notables.items labels
     found c.sum_up_with-cause.ensures.known c.sum_up_with-cause.ensures.whole c.told_after-told.ensures.whole c.told_after-told.ensures.stopped in
     let lines_of : List Note → List ℕ = λ ns. note_texts on ns ++ label_lines on (map (λ label. label.now) c.told_after-told.result.now) in
     let lines = lines_told c.all_lines-lines.result (λ text. text.items) c.all_notes-notes.result (λ ns. map note_of ns.items) lines_of notes
@@ -87,14 +87,14 @@ returns g c =
     before
     (record { writer = after; unflushed = c.args.output.now.unflushed.number })
     (shown_by g.O.Write.contents c.flush-flushed.new.self)
-    report.endings.items report.notables.items report.counts cause (fault_of error_kind c.flush-flushed.result) c.end_after-end.result _ _ c.finish.result terms form
+    report.told.endings.items report.told.notables.items report.told.counts cause (fault_of error_kind c.flush-flushed.result) c.end_after-end.result _ _ c.finish.result terms form
     c.requires
     (λ i. record (asking c.in-Ok.plan.terms.rules.limits (c.in-Ok.ensures.except i) (c.in-Ok.ensures.order i) (c.in-Ok.ensures.explain i)) { stop = c.in-Ok.ensures.stop i }) c.in-Ok.ensures.form c.in-Ok.ensures.limits
     named seen
     told.remarks told.are told.shown
     (are_own input_of unused_in sight g.F.Opener.can_fail g.F.Opener.holds words
     (λ source too_large fault. noted_by g.S.Read.remaining (λ f. g.F.Opener.known f.now) g.F.File.Read.remaining g.F.Opener.can_fail g.F.Opener.holds input_of unused_in source words too_large fault source.reader.first.value source.reader.given.bytes source.reader.faults.number source.reader.ends.number refl source.reader.led)
-    left noted_endings report.notables.items)
+    left noted_endings report.told.notables.items)
     (left_by known labels config.files given names (map (sighted sight) left) (option_map (seen_within g.S.Read.remaining) c.in-Ok-sources_of.gathered.stdin) _
     (subst (λ (s : Sources). IsLeftBeside s given (option_map (seen_within g.S.Read.remaining) c.in-Ok-sources_of.gathered.stdin)) asked_is c.in-Ok-sources_of.ensures.left)
     (rest_kept (seen_within g.S.Read.remaining) c.in-Ok-sources_of.gathered.stdin c.left_beside.result c.left_beside.ensures.kept)

@@ -11,7 +11,7 @@ use Rattle.aero_program.proofs.execute.sum_up_with.Goals as goal
 pub returns-clause-summed : goal.returns-clause-summed
 returns-clause-summed g c = λ text is.
     let plan = c.args.plan.now in
-    let counts = c.args.report.now.counts in
+    let counts = c.args.report.now.told.counts in
     let ending : Options → Options = λ options. record options { end = c.args.beside.now.end } in
     let line : Options → List ℕ = λ options. summary_line_in plan.form (ending options) counts in
     let asked_are = c.options_with.ensures

@@ -9,7 +9,7 @@ use Rattle.aero_model.specs.declared.numbered.Numbered.{Numbered}
 use Rattle.aero_engine.specs.Given.{words_of}
 use Rattle.aero_verdict.specs.Known.{HasLabel}
 use Rattle.aero_verdict.specs.Standing.{HasNamedActor}
-use Rattle.aero_verdict.specs.Verdict.{under}
+use Rattle.aero_model.specs.Terms.{under}
 use Rattle.aero_verdict.proofs.BlockEvents.{thread_within, target_within, is_event}
 use Rattle.aero_verdict.proofs.KnownLabels.{labels_known}
 use Rattle.aero_verdict.proofs.Parts.{part_expected, part_can_be_told, part_stopped, part_malformed, part_passed}

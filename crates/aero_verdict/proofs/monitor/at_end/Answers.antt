@@ -1,7 +1,7 @@
 use Rattle.std.proofs.Common.{sym, subst}
 use Rattle.aero_engine.specs.Given.{words_of}
 use Rattle.aero_verdict.specs.Monitored.{TellsFed}
-use Rattle.aero_verdict.specs.Verdict.{under}
+use Rattle.aero_model.specs.Terms.{under}
 use Rattle.aero_verdict.proofs.Feeding.{tells_too_many, faultless_at_end, stands_at_end, names_at_end, keeps_at_end}
 use Rattle.aero_verdict.proofs.monitor.at_end.Goals as goal
 

@@ -4,7 +4,7 @@ use Rattle.aero_engine.specs.Given.{words_of}
 use Rattle.aero_verdict.specs.declared.monitor.State.TheVariants.{Decided}
 use Rattle.aero_verdict.specs.Monitored.{FedSo}
 use Rattle.aero_verdict.specs.Parts.{greatest_number}
-use Rattle.aero_verdict.specs.Verdict.{under}
+use Rattle.aero_model.specs.Terms.{under}
 use Rattle.aero_verdict.proofs.Feeding.{wrong_part, right_part, fed_too_many}
 use Rattle.aero_verdict.proofs.monitor.judge_part.Goals as goal
 

@@ -1,7 +1,7 @@
 use Rattle.std.proofs.Common.{subst}
 use Rattle.aero_engine.specs.Given.{words_of}
 use Rattle.aero_verdict.specs.Monitored.{FedSo}
-use Rattle.aero_verdict.specs.Verdict.{under}
+use Rattle.aero_model.specs.Terms.{under}
 use Rattle.aero_verdict.proofs.Feeding.{tells_certain}
 use Rattle.aero_verdict.proofs.monitor.verdict_of.Goals as goal
 

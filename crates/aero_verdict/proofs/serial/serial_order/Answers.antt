@@ -6,7 +6,8 @@ use Rattle.aero_model.specs.declared.verdict.Verdict.TheVariants.{Serializable}
 use Rattle.aero_model.specs.Cycle.{IsSerializable}
 use Rattle.aero_grammar.specs.Reading.{Reading}
 use Rattle.aero_verdict.specs.Ordered.{is_faultless}
-use Rattle.aero_verdict.specs.Verdict.{Rules, IsVerdict, checked_trace}
+use Rattle.aero_verdict.specs.Verdict.{IsVerdict, checked_trace}
+use Rattle.aero_model.specs.Terms.{Rules}
 use Rattle.aero_verdict.proofs.serial.serial_order.Goals as goal
 
 -- what is told of parts under rules

@@ -1,7 +1,7 @@
 use Rattle.std.proofs.Common.{length, refl, sym, ◌∙◌}
 use Rattle.std.proofs.lemmas.Bool.{ltb-true}
 use Rattle.std.proofs.lemmas.Option.{slice_get_read}
-use Rattle.aero_witness.proofs.Deciding.{conflict_from, conflict_to}
+use Rattle.aero_model.proofs.Conflicting.{conflict_from, conflict_to}
 use Rattle.aero_witness.proofs.conflict.conflict.Goals as goal
 
 pub returns : goal.returns

@@ -1,7 +1,7 @@
 use Rattle.std.proofs.Common.{◌≡◌, ◌<◌, List, length, get_or, Option, None, refl, sym, ◌∙◌, subst, arith}
 use Rattle.std.proofs.lemmas.Grind.{get_or_default_zero}
 use Rattle.aero_witness.specs.declared.reached.Reached.{Reached}
-use Rattle.aero_witness.specs.Quest.{IsNextOf}
+use Rattle.aero_witness.specs.Basis.{IsNextOf}
 use Rattle.aero_witness.specs.Reached.{reached_at}
 use Rattle.aero_witness.proofs.Fronts.{one_fronted}
 use Rattle.aero_witness.proofs.Walked.{one_walked}
@@ -9,8 +9,8 @@ use Rattle.aero_witness.proofs.reached.walk.Goals as goal
 
 pub loop-how-preserved : goal.loop-how-preserved
 loop-how-preserved c =
-    let firsts = c.args.quest.now.transactions.firsts.items in
-    let nexts = c.args.quest.now.next.items in
+    let firsts = c.args.basis.now.transactions.firsts.items in
+    let nexts = c.args.basis.now.next.items in
     let cur = c.loop-how.walks.reached.items in
     let place = c.loop-how.place in
     let w = c.loop-how.invariant.walked in

@@ -12,26 +12,26 @@ use Rattle.aero_witness.proofs.rounds.begin.Goals as goal
 pub returns : goal.returns
 returns c =
     let trace = c.args.events.now in
-    let quest = c.args.quest.now in
-    let firsts = quest.transactions.firsts.items in
-    let firsts_are = c.requires.quest.of.firsts in
-    let first = quest.first in
+    let basis = c.args.basis.now in
+    let firsts = basis.transactions.firsts.items in
+    let firsts_are = c.requires.basis.of.firsts in
+    let first = basis.first in
     let reached = c.in_ok-reached.reached.items in
     let starts = subst (λ (xs : List ℕ). AreStarts xs first (length xs) reached) c.deref.ensures.value c.in_ok-reached.ensures in
-    let levels : AreLevels trace (transaction trace quest.begin) reached 0 = start_levels trace firsts firsts_are quest.begin first c.requires.quest.first reached starts in
+    let levels : AreLevels trace (transaction trace basis.begin) reached 0 = start_levels trace firsts firsts_are basis.begin first c.requires.basis.first reached starts in
     let each_first = firsts_are.each in
-    let begin_within = slice_get_within firsts quest.begin first c.requires.quest.first in
-    let begin = levels.start quest.begin (omega arith) refl in
+    let begin_within = slice_get_within firsts basis.begin first c.requires.basis.first in
+    let begin = levels.start basis.begin (omega arith) refl in
     let each = levels.each in
-    let one : unreached reached < length reached = one_reached reached quest.begin begin.0 begin.1 in
+    let one : unreached reached < length reached = one_reached reached basis.begin begin.0 begin.1 in
     record {
       levels = levels;
-      closed = start_closed trace firsts firsts_are quest.begin first c.requires.quest.first reached starts;
-      most = start_most trace firsts firsts_are quest.begin first c.requires.quest.first reached starts;
+      closed = start_closed trace firsts firsts_are basis.begin first c.requires.basis.first reached starts;
+      most = start_most trace firsts firsts_are basis.begin first c.requires.basis.first reached starts;
       front = subst (λ (xs : List (Option Reached)). IsFront 0 xs c.in_ok-front.front.items) c.deref-2.ensures.value c.in_ok-front.ensures;
       left = record {
-        lanes = c.in_ok-left.ensures.lanes;
-        homes = c.in_ok-left.ensures.homes;
+        buckets = c.in_ok-left.ensures.buckets;
+        origins = c.in_ok-left.ensures.origins;
         taken = λ k m j le at. absurd (c.in_ok-left.ensures.full k m j le at);
       };
       room = omega arith;

@@ -1,17 +1,18 @@
-use Rattle.std.proofs.Common.{sym, subst, []}
-use Rattle.aero_feed.specs.Reads.{StandsAt, fed_by, explains_in}
-use Rattle.aero_feed.proofs.Texts.{stands_first, certain_first, seen_first}
+use Rattle.std.proofs.Common.{◌≡◌, [], sym, ap, subst, ◌∙◌}
+use Rattle.aero_model.specs.Terms.{to_the_end}
+use Rattle.aero_verdict.specs.Judging.{Judging, judging_of, nothing_judged}
+use Rattle.aero_feed.specs.Reads.{StandsAt}
+use Rattle.aero_feed.proofs.Texts.{stands_first}
 use Rattle.aero_feed.proofs.text_monitor.TextMonitor.new.Goals as goal
 
 pub invariant_of-result : goal.invariant_of-result
 invariant_of-result c =
-    let m = fed_by c.args.judge in
+    let terms = to_the_end c.args.terms in
+    let same : judging_of c.in_ok-judge.judge.value ≡ nothing_judged terms = ap judging_of c.in_ok-judge.ensures.ok ∙ c.new.ensures in
     record {
-      labels = c.requires.labels;
-      stands = λ _. subst (λ t. StandsAt t c.new.result m m.certain) (sym c.none.ensures) (subst (λ k. StandsAt [] k m m.certain) (sym c.new.ensures) (stands_first m c.requires.none c.is_certain-is_certain.ensures.certain));
+      labels = sym (ap (λ (j : Judging). j.terms.rules.labels) same);
+      stands = λ _.
+          subst (λ (j : Judging). StandsAt c.none.result.bytes c.new-3.result j j.certain) (sym same)
+          (subst (λ t. StandsAt t c.new-3.result (nothing_judged terms) (nothing_judged terms).certain) (sym c.none.ensures)
+          (subst (λ k. StandsAt [] k (nothing_judged terms) (nothing_judged terms).certain) (sym c.new-3.ensures) (stands_first terms)));
     }
-
-pub returns : goal.returns
-returns c =
-    let m = fed_by c.args.judge in
-    seen_first m (explains_in c.args.judge) c.none.result.bytes c.none.ensures (certain_first m c.requires.none c.is_certain-is_certain.ensures.certain)

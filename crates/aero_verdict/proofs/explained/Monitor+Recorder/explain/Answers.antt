@@ -6,7 +6,7 @@ use Rattle.aero_verdict.specs.Explained.{ShowsCertain}
 use Rattle.aero_verdict.specs.Fed.{Fed}
 use Rattle.aero_verdict.specs.Monitored.{FedSo, certain_of}
 use Rattle.aero_verdict.specs.Recorded.{HasRecorded, StandsForLeads}
-use Rattle.aero_verdict.specs.Verdict.{under}
+use Rattle.aero_model.specs.Terms.{under}
 use Rattle.aero_verdict.proofs.Feeding.{tells_certain}
 use Rattle.aero_verdict.proofs.explained.Monitor+Recorder.explain.Goals as goal
 

@@ -1,7 +1,7 @@
 use Rattle.std.proofs.Common.{◌≡◌, sym, ◌∙◌, ap}
 use Rattle.aero_engine.specs.Given.{words_of}
 use Rattle.aero_verdict.specs.Fed.{Fed}
-use Rattle.aero_verdict.specs.Verdict.{under}
+use Rattle.aero_model.specs.Terms.{under}
 use Rattle.aero_verdict.proofs.Feeding.{expected_part, stays_part, fed_part, certain_so, open_told, lines_told, readings_more}
 use Rattle.aero_verdict.proofs.monitor.Monitor.feed.Goals as goal
 

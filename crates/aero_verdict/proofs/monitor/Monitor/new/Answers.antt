@@ -4,7 +4,7 @@ use Rattle.std.proofs.lemmas.List.Elements.{All-nil}
 use Rattle.aero_grammar.specs.Reading.{Reading, IsReading}
 use Rattle.aero_engine.specs.Given.{words_of}
 use Rattle.aero_verdict.specs.Parts.{Stands}
-use Rattle.aero_verdict.specs.Verdict.{under}
+use Rattle.aero_model.specs.Terms.{under}
 use Rattle.aero_verdict.proofs.Parts.{nothing_yet}
 use Rattle.aero_verdict.proofs.monitor.Monitor.new.Goals as goal
 

@@ -3,7 +3,7 @@ use Rattle.std.specs.Prelude.{IfOk}
 use Rattle.aero_engine.specs.Given.{words_of}
 use Rattle.aero_verdict.specs.Monitored.{TellsFed}
 use Rattle.aero_verdict.specs.Recorded.{HasRecorded, StandsForLeads}
-use Rattle.aero_verdict.proofs.Opening.{no_order}
+use Rattle.aero_verdict.proofs.Opening.{no_order, owned_finding}
 use Rattle.aero_verdict.proofs.opened.Monitor+Recorder.finish_to_explain.Goals as goal
 
 pub finding_shown-requires : goal.finding_shown-requires
@@ -12,9 +12,15 @@ finding_shown-requires c =
     let tells = subst (λ r. IfOk r (TellsFed (words_of StandsForLeads HasRecorded) c.args.self.rules c.args.self.parts checker)) c.in_ok-verdict.was c.into_verdict-verdict.ensures.tells in
     (c.args.self.parts, c.args.self.rules, record { readings = c.into_verdict-verdict.ensures.readings; few = c.into_verdict-verdict.ensures.few; checker = checker; names = c.names.ensures; engine = c.engine.ensures; tells = tells })
 
-pub returns : goal.returns
-returns c =
+pub returns-clause-finding : goal.returns-clause-finding
+returns-clause-finding c =
     let checker = c.into_verdict-verdict.result.1 in
     let tells = subst (λ r. IfOk r (TellsFed (words_of StandsForLeads HasRecorded) c.args.self.rules c.args.self.parts checker)) c.in_ok-verdict.was c.into_verdict-verdict.ensures.tells in
-    c.finding_shown.ensures c.args.self.parts c.args.self.rules false
+    c.finding_shown.ensures.finding c.args.self.parts c.args.self.rules false
     (record { readings = c.into_verdict-verdict.ensures.readings; few = c.into_verdict-verdict.ensures.few; checker = checker; names = c.names.ensures; engine = c.engine.ensures; tells = tells }) (no_order c.in_ok-verdict.verdict)
+
+pub returns-clause-own_fault : goal.returns-clause-own_fault
+returns-clause-own_fault c =
+    let checker = c.into_verdict-verdict.result.1 in
+    let tells = subst (λ r. IfOk r (TellsFed (words_of StandsForLeads HasRecorded) c.args.self.rules c.args.self.parts checker)) c.in_ok-verdict.was c.into_verdict-verdict.ensures.tells in
+    owned_finding c.finding_shown.result c.in_ok-verdict.verdict tells.on.own_fault c.finding_shown.ensures.same

@@ -1,9 +1,0 @@
-use Rattle.std.proofs.Common.{◌≡◌, ◌+◌, ◌-◌, ◌≤◌, ◌==◌, length, drop}
-use Rattle.std.specs.List.{position_or_len}
-use Rattle.aero_faults.proofs.fields.place_of.Given as goal
-
-abbrev pub invariant-loop-place : goal.invariant-loop-place
-invariant-loop-place l = (l.place + position_or_len (λ b. b == l.sought) (drop l.place l.bytes) ≡ position_or_len (λ b. b == l.sought) l.bytes) × (l.place ≤ length l.bytes)
-
-abbrev pub decreases-loop-place : goal.decreases-loop-place
-decreases-loop-place l = length l.bytes - l.place

@@ -1,5 +1,0 @@
-use Rattle.aero_intake.proofs.Judged.{judged_alike}
-use Rattle.aero_intake.proofs.laws.blocks_are_judged_as_the_text.Goals as goal
-
-pub returns : goal.returns
-returns c = judged_alike
