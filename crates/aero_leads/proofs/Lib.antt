@@ -26,6 +26,7 @@ pub mod Rising
 pub mod Compacting
 pub mod Backs
 pub mod Passing
+pub mod Handing
 pub mod Singles
 pub mod LedEvents
 pub mod LeastOf

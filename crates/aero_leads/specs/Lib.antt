@@ -1,7 +1,7 @@
 -- To be believed: Standing (for which trace Leads stands), with States and Leads (what that asks of what is kept), Leasts
 -- (the least place of a row) and Laws (what it tells). What is to be told is said by Judgement of aero_engine.
--- For proofs alone: Marks and Steps (what an event takes and changes), Indexed, Listed, Seen, Lows, Highs, Passed, Single, Gaining, and what
--- Standing and States don't name of Kept.
+-- For proofs alone: Marks and Steps (what an event takes and changes), Indexed, Listed, Seen, Lows, Highs, Passed, Single, Gaining, Handing, and
+-- what Standing and States don't name of Kept.
 pub mod Leads
 pub mod Leasts
 pub mod Laws
@@ -16,5 +16,6 @@ pub mod Highs
 pub mod Passed
 pub mod Single
 pub mod Gaining
+pub mod Handing
 pub mod States
 pub mod Standing

@@ -28,6 +28,21 @@ pub(crate) fn forget_highs(highs: &mut Highs)
     highs.places.clear();
 }
 
+/// Makes room for so many threads, where there was room for so many before. No block leads to a new one, so that no place in its
+/// row is above 0. Where nothing is known of the threads before, nothing is kept of the new ones.
+pub(crate) fn add_highs(highs: &mut Highs, before: usize, after: usize) -> Result<(), AllocError>
+    ensures { (o p : ℕ) → is_early (high_of highs.old o) p ≡ true → o < before →
+        is_early (high_of highs.new o) p ≡ true }
+{
+    if highs.places.len() != before {
+        return Ok(());
+    }
+    while highs.places.len() < after {
+        highs.places.push(Some(0))?;
+    }
+    Ok(())
+}
+
 /// The place that is kept for thread `o`, where one is known.
 pub(crate) fn high_place(highs: &Highs, o: u32) -> Option<u32>
     ensures { result ≡ high_of highs.now o }

@@ -75,6 +75,20 @@ fn hint_at(led: &Led, t: u32, i: usize) -> u32 {
     }
 }
 
+/// This thread, and a hint for the place.
+pub(crate) fn entry_at(thread: u32, at: usize) -> Entry
+    ensures { result.thread ≡ thread }
+{
+    Entry {
+        thread,
+        at: hint_for(at),
+    }
+}
+
+fn hint_for(at: usize) -> u32 {
+    (at % MOST_PLACES) as u32
+}
+
 /// The open block of thread `w` leads to thread `o`, in whose row it comes to stand at this place.
 pub(crate) fn note(led: &mut Led, w: u32, o: u32, at: usize) -> Result<(), AllocError>
     ensures noted { OnOk result ((v : ℕ) →
@@ -84,8 +98,7 @@ pub(crate) fn note(led: &mut Led, w: u32, o: u32, at: usize) -> Result<(), Alloc
     ensures index { led.new.index ≡ led.old.index }
 {
     reach(&mut led.lists, w)?;
-    let hint = (at % MOST_PLACES) as u32;
-    led.lists[w as usize].hints.push(hint)?;
+    led.lists[w as usize].hints.push(hint_for(at))?;
     led.lists[w as usize].threads.push(o)?;
     Ok(())
 }

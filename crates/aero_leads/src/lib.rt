@@ -62,6 +62,7 @@ mod news;
 mod passed;
 mod row;
 mod seen;
+mod spreading;
 mod table;
 mod thread;
 mod variable;

@@ -43,6 +43,7 @@ fn is_any(openers: &[bool], from: usize) -> bool
 }
 
 /// Whether an opener but this one is in one table and not in the other.
+#[inline(always)]
 pub(crate) fn has_others(theirs: &[bool], mine: &[bool], but: u32) -> bool
     ensures { result ≡ false → (w : ℕ) → w ≢ but → seen_at theirs.now w ≡ true →
         seen_at mine.now w ≡ true }

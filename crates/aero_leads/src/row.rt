@@ -1,5 +1,5 @@
 //! Which open blocks lead to a thread, and from which of its events on.
-ghost use Rattle.std.specs.Prelude.{◌≡◌, ◌≢◌, ◌==◌, ◌&&◌, ◌<◌, ◌++◌, ◌∷◌, [], ℕ, true, false, nat_lt, None, Some, OnOk, is_some, slice_get, if◌then◌else◌};
+ghost use Rattle.std.specs.Prelude.{◌≡◌, ◌≢◌, ◌==◌, ◌&&◌, ◌<◌, ◌≤◌, ◌++◌, ◌∷◌, [], ℕ, true, false, nat_lt, None, Some, OnOk, is_some, slice_get, if◌then◌else◌};
 ghost use Rattle.aero_leads.specs.Kept.{least_in, is_below, absorbed};
 ghost use Rattle.aero_leads.specs.Highs.{IsHigh};
 ghost use Rattle.aero_leads.specs.Indexed.{IsIndexed, IsFound, IsLeadOf, opener_of};
@@ -9,7 +9,7 @@ ghost use Rattle.aero_leads.specs.Steps.{gains, lesser};
 
 use crate::highs::is_up_to;
 use crate::index::{Index, enter, place_at};
-use crate::led::{Entry, Led, note};
+use crate::led::{Entry, Led, entry_at, note};
 use std::alloc::AllocError;
 
 /// The thread whose open block leads to another thread, and the place of the first event of that
@@ -370,6 +370,30 @@ fn seek(row: &[Lead], w: u32, hint: usize) -> Option<usize>
     seek_back(row, w as usize)
 }
 
+/// Where it is true, no block leads to the row's thread from a later place on than that of thread `w` does, if this one leads there.
+/// It may stand where the hint says. None in the row is above the high place, where one is known.
+pub(crate) fn is_latest(row: &[Lead], w: u32, hint: u32, high: Option<u32>) -> bool
+    requires single { IsSingle row.now }
+    requires high { IsHigh row.now high }
+    ensures { result ≡ true → (v p q : ℕ) → least_in row.now w ≡ Some p →
+        least_in row.now v ≡ Some q → q ≤ p }
+{
+    match seek(row, w, hint as usize) {
+        Some(at) => is_up_to(high, place_there(row, w, at)),
+        None => true,
+    }
+}
+
+/// The entry with a hint that is right, where the block of thread `w` leads to the entry's thread, whose row this is.
+pub(crate) fn aimed(row: &[Lead], w: u32, entry: Entry) -> Entry
+    ensures { result.thread ≡ entry.thread }
+{
+    match seek(row, w, entry.at as usize) {
+        Some(at) => entry_at(entry.thread, at),
+        None => entry,
+    }
+}
+
 // The block of this thread is open no more. It may stand where the hint says.
 fn drop_opener(row: &mut Vec<Lead>, opener: u32, hint: usize)
     requires { IsSingle row.old.items }
@@ -431,6 +455,13 @@ fn put_lead(row: &mut Vec<Lead>, opener: u32, place: u32) -> Result<(), AllocErr
 {
     row.push(Lead { opener, place })?;
     Ok(())
+}
+
+/// These leads, or none of them where all are known.
+pub(crate) fn unless(all: bool, leads: &[Lead]) -> &[Lead]
+    ensures { result.now ≡ (if all then [] else leads.now) }
+{
+    if all { &[] } else { leads }
 }
 
 /// The block of thread `t` ends, to which the blocks of the row `ended` lead: where it led to the thread of this entry, whose row

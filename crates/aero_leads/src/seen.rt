@@ -6,7 +6,8 @@ ghost use Rattle.aero_leads.specs.Listed.{is_listed};
 ghost use Rattle.aero_leads.specs.Seen.{is_seen, seen_at, openers_in, is_whole, whole_in, AreSeen, IsWhole};
 
 use crate::led::{Led, count, follower};
-use crate::row::{Lead, SHORT};
+use crate::news::has_others;
+use crate::row::{Lead, SHORT, unless};
 use crate::thread::{Thread, row_of};
 use std::alloc::{AllocError, Global};
 use std::mem;
@@ -280,6 +281,8 @@ pub(crate) fn see_one(known: &mut SeenRow, w: u32)
 /// thread to which it led these lead as well, from now on. That is known where there is a place for it, and else the row isn't
 /// whole.
 pub(crate) fn unsee_all(seen: &mut Seen, led: &Led, w: u32, later: &[Lead])
+    requires { is_whole seen.old w ≡ true → (v : ℕ) → v ≢ w →
+        is_some (least_in later.now v) ≡ true → is_seen seen.old w v ≡ true }
     ensures so { (o v : ℕ) → is_seen seen.new o v ≡ true →
         (is_seen seen.old o v || (is_seen seen.old o w && is_some (least_in later.now v))) ≡ true }
     ensures kept { (o v : ℕ) → v ≢ w → is_seen seen.old o v ≡ true → is_seen seen.new o v ≡ true }
@@ -293,8 +296,45 @@ pub(crate) fn unsee_all(seen: &mut Seen, led: &Led, w: u32, later: &[Lead])
     unsee(seen, w, w, &[]);
     let listed = count(led, w);
     for i in 0..listed {
-        unsee(seen, follower(led, w, i), w, later);
+        unsee_next(seen, follower(led, w, i), w, later);
     }
+}
+
+// The same of one thread that is listed with the block. Nothing is handed on to it where all of that is known to lead there.
+fn unsee_next(seen: &mut Seen, o: u32, w: u32, later: &[Lead])
+    requires { is_whole seen.old w ≡ true → (v : ℕ) → v ≢ w →
+        is_some (least_in later.now v) ≡ true → is_seen seen.old w v ≡ true }
+    ensures so { (v : ℕ) → is_seen seen.new o v ≡ true →
+        (is_seen seen.old o v || (is_seen seen.old o w && is_some (least_in later.now v))) ≡ true }
+    ensures kept { (v : ℕ) → v ≢ w → is_seen seen.old o v ≡ true → is_seen seen.new o v ≡ true }
+    ensures gone { is_seen seen.new o w ≡ false }
+    ensures whole { is_whole seen.new o ≡ true → is_whole seen.old o ≡ true }
+    ensures handed { is_seen seen.old o w ≡ true → is_whole seen.new o ≡ true → (v : ℕ) → v ≢ w →
+        is_some (least_in later.now v) ≡ true → is_seen seen.new o v ≡ true }
+    ensures others { (u v : ℕ) → u ≢ o → is_seen seen.new u v ≡ is_seen seen.old u v }
+    ensures whole_others { (u : ℕ) → u ≢ o → is_whole seen.new u ≡ is_whole seen.old u }
+{
+    let all = knows_these(seen, o, w, later);
+    unsee(seen, o, w, unless(all, later));
+}
+
+// Where it is true, these blocks, which lead to thread w, are known to lead to thread o. Where there is none, it isn't looked up.
+fn knows_these(seen: &Seen, o: u32, w: u32, later: &[Lead]) -> bool
+    requires { is_whole seen.now w ≡ true → (v : ℕ) → v ≢ w →
+        is_some (least_in later.now v) ≡ true → is_seen seen.now w v ≡ true }
+    ensures { result ≡ true → (v : ℕ) → v ≢ w → is_some (least_in later.now v) ≡ true →
+        is_seen seen.now o v ≡ true }
+{
+    !later.is_empty() && knows_all(seen, o, w)
+}
+
+/// Where it is true, all that leads to thread `w` is known, and all of it but the thread's own block is known to lead to thread `o`.
+pub(crate) fn knows_all(seen: &Seen, o: u32, w: u32) -> bool
+    ensures whole { result ≡ true → is_whole seen.now w ≡ true }
+    ensures there { result ≡ true → (v : ℕ) → v ≢ w → is_seen seen.now w v ≡ true →
+        is_seen seen.now o v ≡ true }
+{
+    is_whole(seen, w) && !has_others(openers_of(seen, w), openers_of(seen, o), w)
 }
 
 // The block of thread w isn't known to lead to thread o. If it was, these are, as far as there is a place for them.

@@ -11,7 +11,7 @@ ghost use Rattle.aero_leads.specs.Single.{AreSingle};
 use crate::back::least_known;
 use crate::beside::{Beside, forget_beside, nothing_beside};
 use crate::gaining::gain_row;
-use crate::highs::{high_place, raise_high, settle_high};
+use crate::highs::{add_highs, high_place, raise_high, settle_high};
 use crate::last::Last;
 use crate::led::{Led, forget, no_block};
 use crate::lows::{is_low, lower, raise_all};
@@ -19,8 +19,9 @@ use crate::news::{differ_little, has_news, has_others};
 use crate::passed::{lower_place, note_begin, note_gain, passed_before, since};
 use crate::row::{Brought, Lead, SHORT, Taking, brought_by, led_below, settle};
 use crate::seen::{has_seen, is_in, is_whole, openers_of, see_own, unsee_all};
+use crate::spreading::spread;
 use crate::thread;
-use crate::thread::{Thread, leave, put_row, row_of, spread, take_row};
+use crate::thread::{Thread, leave, put_row, row_of, take_row};
 use std::alloc::{AllocError, Global};
 
 /// The threads, by their numbers. With each open block the other threads are listed to whose events
@@ -50,11 +51,26 @@ pub(crate) fn no_thread(alloc: Global) -> Table
 }
 
 /// Makes room for thread `t`.
+#[inline(always)]
 pub(crate) fn reach(table: &mut Table, t: u32) -> Result<(), AllocError>
     ensures room { OnOk result (t < vec_len table.new.threads) }
     ensures same { AreSameThreads table.old.threads.items table.new.threads.items }
 {
-    thread::reach(&mut table.threads, t)
+    if (t as usize) < table.threads.len() {
+        return Ok(());
+    }
+    reach_new(table, t)
+}
+
+// The same where there is no room yet. So far nothing leads to the new threads.
+#[inline(never)]
+fn reach_new(table: &mut Table, t: u32) -> Result<(), AllocError>
+    ensures room { OnOk result (t < vec_len table.new.threads) }
+    ensures same { AreSameThreads table.old.threads.items table.new.threads.items }
+{
+    let before = table.threads.len();
+    thread::reach(&mut table.threads, t)?;
+    add_highs(&mut table.beside.highs, before, table.threads.len())
 }
 
 /// What leads to an event of thread `o` below a place leads to thread `t`, another one, from this
@@ -333,7 +349,7 @@ pub(crate) fn end(table: &mut Table, t: u32) -> Result<(), AllocError>
     let later = not_passed(table, t)?;
     let mut row = take_row(&mut table.threads, t);
     let own = settle(&mut row, t, high_place(&table.beside.highs, t));
-    let Ok(()) = spread(&mut table.threads, &later, t, &mut table.led) else {
+    let Ok(()) = spread(&mut table.threads, &later, t, &mut table.led, &table.beside) else {
         forget_beside(&mut table.beside);
         return Err(AllocError);
     };

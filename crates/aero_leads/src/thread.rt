@@ -6,7 +6,7 @@ ghost use Rattle.aero_leads.specs.Listed.{followers, is_listed, AreListed, Grows
 ghost use Rattle.aero_leads.specs.Single.{AreSingle};
 
 use crate::index::Index;
-use crate::led::{Entry, Led, count, follower, listed_at};
+use crate::led::{Entry, Led, count, follower};
 use crate::row::{Lead, absorb, enter_all, has, has_entered, least_of, open};
 use std::alloc::{AllocError, Global};
 use std::mem;
@@ -172,8 +172,8 @@ pub(crate) fn leave(threads: &mut Vec<Thread>, t: u32)
     threads[t as usize].in_block = false;
 }
 
-// The thread of this entry takes over what led to the block of thread `t`, the row `ended`, if that block led to it.
-fn visit(
+/// The thread of this entry takes over what led to the block of thread `t`, the row `ended`, if that block led to it.
+pub(crate) fn visit(
     threads: &mut Vec<Thread>,
     entry: Entry,
     ended: &[Lead],
@@ -196,33 +196,6 @@ fn visit(
     let o = entry.thread;
     if (o as usize) < threads.len() {
         return absorb(&mut threads[o as usize].row, entry, ended, t, led);
-    }
-    Ok(())
-}
-
-/// The block of thread `t` ends, to which the blocks of this row led: they lead to each thread that
-/// is listed with it, if the block did.
-pub(crate) fn spread(
-    threads: &mut Vec<Thread>,
-    ended: &[Lead],
-    t: u32,
-    led: &mut Led,
-) -> Result<(), AllocError>
-    requires own { is_some (least_in ended.now t) ≡ false }
-    requires single { AreSingle threads.old.items }
-    ensures rows { OnOk result ((o w : ℕ) →
-        rows_in threads.new.items o w ≡
-        (if is_listed led.old t o then absorbed (least_in ended.now) (rows_in threads.old.items o) t
-        w else rows_in threads.old.items o w)) }
-    ensures same { HaveSameBlocks threads.old.items threads.new.items }
-    ensures listed { AreListed threads.old.items led.old → AreListed threads.new.items led.new }
-    ensures grows { Grows led.old led.new }
-    ensures single { AreSingle threads.new.items }
-    ensures room { vec_len threads.new ≡ vec_len threads.old }
-{
-    let listed = count(led, t);
-    for i in 0..listed {
-        visit(threads, listed_at(led, t, i), ended, t, led)?;
     }
     Ok(())
 }

@@ -19,25 +19,25 @@ loop-i-init c =
 pub loop-i-preserved : goal.loop-i-preserved
 loop-i-preserved c =
     record {
-      so = so_next c.args.seen.now c.loop-i.seen c.unsee-in-loop-i.new.seen (followers c.args.led.now c.args.w) c.loop-i.i c.follower.result c.args.w c.args.later.now c.follower.ensures
-          c.unsee-in-loop-i.ensures.so c.unsee-in-loop-i.ensures.kept c.unsee-in-loop-i.ensures.gone c.unsee-in-loop-i.ensures.whole c.unsee-in-loop-i.ensures.handed c.unsee-in-loop-i.ensures.others c.unsee-in-loop-i.ensures.whole_others
+      so = so_next c.args.seen.now c.loop-i.seen c.unsee_next.new.seen (followers c.args.led.now c.args.w) c.loop-i.i c.follower.result c.args.w c.args.later.now c.follower.ensures
+          c.unsee_next.ensures.so c.unsee_next.ensures.kept c.unsee_next.ensures.gone c.unsee_next.ensures.whole c.unsee_next.ensures.handed c.unsee_next.ensures.others c.unsee_next.ensures.whole_others
           c.loop-i.invariant.so;
-      kept = kept_next c.args.seen.now c.loop-i.seen c.unsee-in-loop-i.new.seen (followers c.args.led.now c.args.w) c.loop-i.i c.follower.result c.args.w c.args.later.now c.follower.ensures
-          c.unsee-in-loop-i.ensures.so c.unsee-in-loop-i.ensures.kept c.unsee-in-loop-i.ensures.gone c.unsee-in-loop-i.ensures.whole c.unsee-in-loop-i.ensures.handed c.unsee-in-loop-i.ensures.others c.unsee-in-loop-i.ensures.whole_others
+      kept = kept_next c.args.seen.now c.loop-i.seen c.unsee_next.new.seen (followers c.args.led.now c.args.w) c.loop-i.i c.follower.result c.args.w c.args.later.now c.follower.ensures
+          c.unsee_next.ensures.so c.unsee_next.ensures.kept c.unsee_next.ensures.gone c.unsee_next.ensures.whole c.unsee_next.ensures.handed c.unsee_next.ensures.others c.unsee_next.ensures.whole_others
           c.loop-i.invariant.kept;
-      own = own_next c.args.seen.now c.loop-i.seen c.unsee-in-loop-i.new.seen (followers c.args.led.now c.args.w) c.loop-i.i c.follower.result c.args.w c.args.later.now c.follower.ensures
-          c.unsee-in-loop-i.ensures.so c.unsee-in-loop-i.ensures.kept c.unsee-in-loop-i.ensures.gone c.unsee-in-loop-i.ensures.whole c.unsee-in-loop-i.ensures.handed c.unsee-in-loop-i.ensures.others c.unsee-in-loop-i.ensures.whole_others
+      own = own_next c.args.seen.now c.loop-i.seen c.unsee_next.new.seen (followers c.args.led.now c.args.w) c.loop-i.i c.follower.result c.args.w c.args.later.now c.follower.ensures
+          c.unsee_next.ensures.so c.unsee_next.ensures.kept c.unsee_next.ensures.gone c.unsee_next.ensures.whole c.unsee_next.ensures.handed c.unsee_next.ensures.others c.unsee_next.ensures.whole_others
           c.loop-i.invariant.own;
-      gone = listed_next c.args.seen.now c.loop-i.seen c.unsee-in-loop-i.new.seen (followers c.args.led.now c.args.w) c.loop-i.i c.follower.result c.args.w c.args.later.now c.follower.ensures
-          c.unsee-in-loop-i.ensures.so c.unsee-in-loop-i.ensures.kept c.unsee-in-loop-i.ensures.gone c.unsee-in-loop-i.ensures.whole c.unsee-in-loop-i.ensures.handed c.unsee-in-loop-i.ensures.others c.unsee-in-loop-i.ensures.whole_others
+      gone = listed_next c.args.seen.now c.loop-i.seen c.unsee_next.new.seen (followers c.args.led.now c.args.w) c.loop-i.i c.follower.result c.args.w c.args.later.now c.follower.ensures
+          c.unsee_next.ensures.so c.unsee_next.ensures.kept c.unsee_next.ensures.gone c.unsee_next.ensures.whole c.unsee_next.ensures.handed c.unsee_next.ensures.others c.unsee_next.ensures.whole_others
           c.loop-i.invariant.gone;
-      whole = whole_next c.args.seen.now c.loop-i.seen c.unsee-in-loop-i.new.seen (followers c.args.led.now c.args.w) c.loop-i.i c.follower.result c.args.w c.args.later.now c.follower.ensures
-          c.unsee-in-loop-i.ensures.so c.unsee-in-loop-i.ensures.kept c.unsee-in-loop-i.ensures.gone c.unsee-in-loop-i.ensures.whole c.unsee-in-loop-i.ensures.handed c.unsee-in-loop-i.ensures.others c.unsee-in-loop-i.ensures.whole_others
+      whole = whole_next c.args.seen.now c.loop-i.seen c.unsee_next.new.seen (followers c.args.led.now c.args.w) c.loop-i.i c.follower.result c.args.w c.args.later.now c.follower.ensures
+          c.unsee_next.ensures.so c.unsee_next.ensures.kept c.unsee_next.ensures.gone c.unsee_next.ensures.whole c.unsee_next.ensures.handed c.unsee_next.ensures.others c.unsee_next.ensures.whole_others
           c.loop-i.invariant.whole;
-      still = still_next c.args.seen.now c.loop-i.seen c.unsee-in-loop-i.new.seen (followers c.args.led.now c.args.w) c.loop-i.i c.follower.result c.args.w c.args.later.now c.follower.ensures
-          c.unsee-in-loop-i.ensures.so c.unsee-in-loop-i.ensures.kept c.unsee-in-loop-i.ensures.gone c.unsee-in-loop-i.ensures.whole c.unsee-in-loop-i.ensures.handed c.unsee-in-loop-i.ensures.others c.unsee-in-loop-i.ensures.whole_others
+      still = still_next c.args.seen.now c.loop-i.seen c.unsee_next.new.seen (followers c.args.led.now c.args.w) c.loop-i.i c.follower.result c.args.w c.args.later.now c.follower.ensures
+          c.unsee_next.ensures.so c.unsee_next.ensures.kept c.unsee_next.ensures.gone c.unsee_next.ensures.whole c.unsee_next.ensures.handed c.unsee_next.ensures.others c.unsee_next.ensures.whole_others
           c.loop-i.invariant.still;
-      handed = handed_next c.args.seen.now c.loop-i.seen c.unsee-in-loop-i.new.seen (followers c.args.led.now c.args.w) c.loop-i.i c.follower.result c.args.w c.args.later.now c.follower.ensures
-          c.unsee-in-loop-i.ensures.so c.unsee-in-loop-i.ensures.kept c.unsee-in-loop-i.ensures.gone c.unsee-in-loop-i.ensures.whole c.unsee-in-loop-i.ensures.handed c.unsee-in-loop-i.ensures.others c.unsee-in-loop-i.ensures.whole_others
+      handed = handed_next c.args.seen.now c.loop-i.seen c.unsee_next.new.seen (followers c.args.led.now c.args.w) c.loop-i.i c.follower.result c.args.w c.args.later.now c.follower.ensures
+          c.unsee_next.ensures.so c.unsee_next.ensures.kept c.unsee_next.ensures.gone c.unsee_next.ensures.whole c.unsee_next.ensures.handed c.unsee_next.ensures.others c.unsee_next.ensures.whole_others
           c.loop-i.invariant.still c.loop-i.invariant.handed;
     }

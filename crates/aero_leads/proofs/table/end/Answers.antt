@@ -1,5 +1,6 @@
 use Rattle.std.proofs.Common.{ap, sym, subst, ◌∙◌}
-use Rattle.std.specs.Prelude.{if◌then◌else◌, ◌&&◌, ◌||◌, is_some, slice_get}
+use Rattle.std.specs.Prelude.{◌==◌, if◌then◌else◌, ◌&&◌, ◌||◌, is_some, slice_get}
+use Rattle.std.proofs.lemmas.Bool.{cond-false, ne_eqb}
 use Rattle.aero_leads.specs.Kept.{least_in, rows_in, thread_row, absorbed}
 use Rattle.aero_leads.specs.Listed.{is_listed}
 use Rattle.aero_leads.specs.Passed.{passed_of, is_early}
@@ -10,6 +11,7 @@ use Rattle.aero_leads.proofs.Rising.{high_ended}
 use Rattle.aero_leads.proofs.Seeing.{listed_ended, known_ended}
 use Rattle.aero_leads.proofs.Lowering.{low_ended}
 use Rattle.aero_leads.proofs.Passing.{passed_ended, since_own, since_fewer, since_spreads}
+use Rattle.aero_leads.proofs.Handing.{high_without}
 use Rattle.aero_leads.proofs.Singles.{single_row, single_rows, single_taken}
 use Rattle.aero_leads.proofs.table.end.Goals as goal
 
@@ -62,3 +64,22 @@ settle-own-requires-clause-single c = subst IsSingle (sym c.take_row-row.ensures
 pub settle-own-requires-clause-high : goal.settle-own-requires-clause-high
 settle-own-requires-clause-high c = λ w p there.
     ap (λ h. is_early h p) c.high_place.ensures ∙ c.args.table.now.high c.args.t w p (ap (λ ls. least_in ls w) (sym c.take_row-row.ensures.row) ∙ there)
+
+pub spread-requires-clause-whole : goal.spread-requires-clause-whole
+spread-requires-clause-whole c = λ whole v some.
+    c.args.table.now.known.whole c.args.t whole v (
+    since_fewer c.args.t (passed_of c.args.table.now.beside.passed c.args.t) (thread_row (slice_get c.args.table.now.threads.items c.args.t)) v (sym (ap (λ ls. is_some (least_in ls v)) (c.deref.ensures.value ∙ c.in_ok-later.ensures)) ∙ some)
+    )
+
+pub unsee_all-requires : goal.unsee_all-requires
+unsee_all-requires c = λ whole v ne some.
+    c.args.table.now.known.whole c.args.t whole v (
+    since_fewer c.args.t (passed_of c.args.table.now.beside.passed c.args.t) (thread_row (slice_get c.args.table.now.threads.items c.args.t)) v (sym (ap (λ ls. is_some (least_in ls v)) (c.deref-2.ensures.value ∙ c.in_ok-later.ensures)) ∙ some)
+    )
+
+pub spread-requires-clause-beside : goal.spread-requires-clause-beside
+spread-requires-clause-beside c = record {
+  high = high_without c.args.table.now.threads.items c.take_row-row.new.threads.items c.args.table.now.beside.highs c.args.t c.take_row-row.ensures.rest c.args.table.now.high;
+  seen = λ o v other ne known.
+      ap (λ ls. is_some (least_in ls v)) (c.take_row-row.ensures.rest.rows o ∙ cond-false (o == c.args.t) _ _ (ne_eqb o c.args.t other)) ∙ c.args.table.now.known.so o v known;
+}

@@ -4,7 +4,7 @@ use Rattle.std.specs.List.{list_any}
 use Rattle.aero_leads.specs.Kept.{least_in, rows_in, absorbed, HaveSameBlocks}
 use Rattle.aero_leads.specs.Listed.{followers, AreListed, Grows}
 use Rattle.aero_leads.specs.Single.{AreSingle}
-use Rattle.aero_leads.proofs.thread.spread.Given as goal
+use Rattle.aero_leads.proofs.spreading.spread_missing.Given as goal
 
 abbrev pub invariant-loop-i : goal.invariant-loop-i
 invariant-loop-i l = record {
