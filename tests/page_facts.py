@@ -5,7 +5,8 @@
 - The help, the manual page and the guide must have the same lines of the report, faults and statuses, in the same order; README.md
   must have the same lines and statuses. These pages must mention each option of the help, and the manual page and the guide each
   number of the help from 1,000 on. The statuses and options in a script's help must be those of its manual page.
-- The graph in docs/architecture.md must be the one that tools/graph draws from crates.txt.
+- The graph in docs/architecture.md must be the one that tools/graph draws from crates.txt, and the lists in completions/aerodrome.bash
+  must be those that tools/completions writes.
 - Each file that a page names must exist, and so must each name that a page gives as a crate's: a path such as
   `aero_batch::run::run`; a name after the crate's, such as aero_intake `Live`; and each name in backquotes in a row of a table
   that begins with a crate's name.
@@ -142,6 +143,11 @@ def compare_graph(tally):
     drawn = subprocess.run([f"{TOP}/tools/graph"], stdout=subprocess.PIPE, timeout=60, check=False).stdout.decode()
     its = ["\n".join([*lines, ""]) for mark, lines in blocks_of(page) if mark == "mermaid"]
     tally.note(its == [drawn], f"{page}: its graph isn't what tools/graph draws", drawn)
+
+
+def compare_completions(tally):
+    same = subprocess.run([f"{TOP}/tools/completions", "--check"], timeout=60, check=False).returncode == 0
+    tally.note(same, "completions/aerodrome.bash: its lists aren't those that tools/completions writes from _aerodrome")
 
 
 # The name of a file of the repository. A name with a word in capitals is for any file, and a file that a build makes may not exist
@@ -306,4 +312,5 @@ def compare_pages(pages, program, tally):
     compare_tables(program, tally)
     compare_scripts(tally)
     compare_graph(tally)
+    compare_completions(tally)
     compare_recipes(tally)

@@ -1,3 +1,4 @@
+mod LineRead
 mod Numbers
 mod Passed
 mod Told

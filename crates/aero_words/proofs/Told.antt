@@ -10,7 +10,7 @@ use Rattle.clap.proofs.CallerReads.{signed_reads}
 use Rattle.clap.proofs.WalkLemmas.{one_text-rows, raw_values-rows}
 use Rattle.clap.specs.declared.parser.matches.Found.{Found}
 use Rattle.aero_words.specs.Line.{is_told, number_told, texts_told}
-use Rattle.aero_words.specs.Words.{ReadsFlag, ReadsWithin}
+use Rattle.aero_words.proofs.LineRead.{ReadsFlag, ReadsWithin}
 
 -- a number that is read is the one that the option's text says, or the fallback
 pub number_read : (E : Type 0) (G : Text → Result ℕ E → Type 0) (most fallback : ℕ) (r : Option ℕ) (f : Found) (name : Text)

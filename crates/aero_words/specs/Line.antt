@@ -4,7 +4,7 @@ use Rattle.std.specs.List.{list_any}
 use Rattle.std.specs.Str.{bytes_eq}
 use Rattle.std.specs.Str.Parse.{digits_value, without_leading_plus}
 use Rattle.clap.specs.Lexer.{usize_max}
-use Rattle.clap.specs.Words.{App, Row, Rule, Text, all_of, first_of, matches_of, new_app, new_rule, one_of, with_rule}
+use Rattle.clap.specs.Words.{App, Row, Rule, Text, all_of, first_of, matches_of, new_app, new_rule, one_of}
 use Rattle.clap.specs.declared.builder.action.ArgAction.TheVariants.{Append, Set, SetTrue}
 use Rattle.clap.specs.declared.builder.value_parser.ValueParser.TheVariants as vp
 use Rattle.aero_report.specs.declared.form.Form.{Form}
@@ -34,17 +34,17 @@ label_rule name = record (new_rule name) { long = Some name; action = Some Appen
 abbrev pub text_rule : Text → Rule
 text_rule name = record (new_rule name) { long = Some name; action = Some Set; value_names = 1 }
 
--- the form of the report
-abbrev pub format_rule : Rule
-format_rule = record (new_rule (codes "format")) { long = Some (codes "format"); action = Some Set; value_names = 1; defaults = codes "text" ∷ [] }
+-- an option with a text of its own, which has this one by default
+abbrev pub default_rule : Text → Text → Rule
+default_rule name default = record (text_rule name) { defaults = default ∷ [] }
 
 -- a flag of this name
 abbrev pub flag_rule : Text → Rule
 flag_rule name = record (new_rule name) { long = Some name; action = Some SetTrue; parser = Some vp.Bool }
 
 -- the files: any number of words that belong to no option
-abbrev pub files_rule : Rule
-files_rule = record (new_rule (codes "files")) {
+abbrev pub files_rule : Text → Rule
+files_rule name = record (new_rule name) {
   action = Some Append;
   range = Some (record { start_inclusive = 0; end_inclusive = usize_max });
   value_names = 1;
@@ -56,12 +56,35 @@ no_rules = record (new_app (codes "aerodrome")) {
   top = record (new_app (codes "aerodrome")).top { no_binary_name = true; has_version = true };
 }
 
+-- the program with these options
+abbrev pub program_with : List Rule → App
+program_with rules = record no_rules { top = record no_rules.top { rules = rules } }
+
+-- the options, in the order of the help
+abbrev pub rules : List Rule
+rules =
+    number_rule (codes "workers") 16 (codes "4")
+    ∷ number_rule (codes "piece") (2 ^ 20) (codes "65536")
+    ∷ label_rule (codes "except")
+    ∷ label_rule (codes "only")
+    ∷ label_rule (codes "except-from")
+    ∷ label_rule (codes "only-from")
+    ∷ flag_rule (codes "order")
+    ∷ flag_rule (codes "explain")
+    ∷ flag_rule (codes "long")
+    ∷ flag_rule (codes "stop")
+    ∷ flag_rule (codes "end")
+    ∷ default_rule (codes "format") (codes "text")
+    ∷ flag_rule (codes "progress")
+    ∷ flag_rule (codes "quiet")
+    ∷ text_rule (codes "files0-from")
+    ∷ text_rule (codes "label")
+    ∷ flag_rule (codes "fail-open")
+    ∷ files_rule (codes "files")
+    ∷ []
+
 abbrev pub program : App
-program = with_rule (with_rule (with_rule (with_rule (with_rule (with_rule (with_rule (with_rule (with_rule (with_rule (with_rule (with_rule (with_rule (with_rule (with_rule (with_rule (with_rule (with_rule no_rules
-    (number_rule (codes "workers") 16 (codes "4")))
-    (number_rule (codes "piece") (2 ^ 20) (codes "65536")))
-    (label_rule (codes "except"))) (label_rule (codes "only"))) (label_rule (codes "except-from"))) (label_rule (codes "only-from"))) (flag_rule (codes "order"))) (flag_rule (codes "explain"))) (flag_rule (codes "long"))) (flag_rule (codes "stop"))) (flag_rule (codes "end"))) format_rule) (flag_rule (codes "progress"))) (flag_rule (codes "quiet")))
-    (text_rule (codes "files0-from"))) (text_rule (codes "label"))) (flag_rule (codes "fail-open"))) files_rule
+program = program_with rules
 
 -- what each option has of these words, its default included
 abbrev pub rows_given : List Text → List Row

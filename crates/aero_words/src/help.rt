@@ -1,5 +1,5 @@
-//! The texts of `--help`, in at most 80 columns. The manual page docs/aerodrome.1
-//! describes the same.
+//! The texts of `--help` before and after the options, in at most 80 columns, and those of refusals. The
+//! manual page docs/aerodrome.1 describes the same.
 
 pub const ABOUT: &str =
     "Judges traces of threaded programs: does each atomic block run as if alone?";
@@ -44,47 +44,8 @@ take a lock again and again between begin(main) and end: `--except main` leaves
 it out, and checks the blocks inside it by themselves. If only a few blocks are
 meant to be atomic, name these with --only.";
 
-pub const WORKERS: &str = "Number of worker threads, 1 to 16";
-
-pub const LONG_WORKERS: &str = "The number of worker threads, 1 to 16, but never more than there are
-processors for the program. The report is the same for every number";
-
-pub const PIECE: &str = "Bytes of one read, 1 to 1048576";
-
-pub const LONG_PIECE: &str = "The number of bytes that one read asks for at most, 1 to 1048576. The
-report is the same for every number";
-
-pub const EXCEPT: &str = "Blocks with this label need not be atomic";
-
-pub const LONG_EXCEPT: &str = "Blocks that begin with begin(LABEL) need not be atomic. Blocks inside
-them and around them are still checked. You may give up to 64 labels,
-each of 1 to 255 bytes without `|` and control characters. If a label
-begins with -, write --except=LABEL";
-
-pub const ONLY: &str = "Only blocks with this label must be atomic";
-
-pub const LONG_ONLY: &str = "Only blocks that begin with begin(LABEL) must be atomic. Blocks with
-another label or without a label need not be. You may give up to 64
-labels. Not with --except";
-
 pub const ONLY_WITH_EXCEPT: &str =
     "the argument '--only <LABEL>' cannot be used with '--except <LABEL>'";
-
-pub const EXCEPT_FROM: &str = "Read more labels for --except from FILE";
-
-pub const LONG_EXCEPT_FROM: &str =
-    "Read more labels for --except from FILE: one on each line. Empty lines
-and lines that begin with # are skipped. Spaces and tabs around a
-label, and one byte 13 at the end of a line, don't count. You may give
-up to 64 files, and so up to 65536 labels in all; a label that is
-repeated counts once. If a file can't be read, or a line is no label,
-nothing is judged. Not with --only or --only-from. FILE can't be `-`";
-
-pub const ONLY_FROM: &str = "Read more labels for --only from FILE";
-
-pub const LONG_ONLY_FROM: &str = "Read more labels for --only from FILE, as --except-from does for
---except. If the files have no label, and you give no --only, no block
-need be atomic. Not with --except or --except-from";
 
 pub const ONLY_WITH_EXCEPT_FROM: &str =
     "the argument '--only <LABEL>' cannot be used with '--except-from <FILE>'";
@@ -101,110 +62,20 @@ pub const TOO_MANY_LABEL_FILES: &str =
 pub const NO_STANDARD_LABELS: &str =
     "invalid value '-' for a file of labels: labels are not read from standard input";
 
-pub const ORDER: &str = "Print a serial order under each serializable trace";
-
-pub const LONG_ORDER: &str = "Under the line of a serializable trace, print its transactions (blocks
-and events outside of blocks) in an order in which they could have run
-one after another. Each is printed as two spaces, the line number of
-its first event, a space, and its thread. If several could be next,
-the one that began first is next. Not with --long";
-
-pub const EXPLAIN: &str = "Print the events of a cycle under each violation";
-
-pub const LONG_EXPLAIN: &str = "Under the line of a violation, print the events of a cycle. Each is
-printed as two spaces, its line number, a space, the line number on
-which its transaction begins, a space, and THREAD|OPERATION(TARGET).
-If the second number changes from one event to the next, the two
-events conflict. If it stays the same, the cycle passes through one
-transaction. At the first event the cycle leaves the block that is
-blamed, and at the last it enters this block again. No telling cycle
-that starts at the block has fewer transactions. If the block has a
-label, it is printed above the events: two spaces, `label`, a space,
-and the label. With --format json a violation also has the
-transactions of the cycle, and a trace with open blocks has the first
-64 of these blocks";
-
-pub const LONG: &str = "Accept inputs of any size, up to 4000000000 lines";
-
-pub const LONG_LONG: &str = "Accept inputs of up to 4000000000 lines and any number of bytes. (The
-limit is then 70368744177664 bytes, which so many lines can't reach.)
-Without this option an input of more than 1073741824 bytes is too
-large. Not with --order, which keeps every transaction in memory";
-
-pub const STOP: &str = "Stop reading an input once its verdict is certain";
-
-pub const LONG_STOP: &str = "Read no more of an input once its verdict is certain: after the first
-violation or ill-formed event, whose line is reported. What follows
-isn't looked at, not even if it is malformed";
-
-pub const END: &str = "End the blocks that are open at the end of an input";
-
-pub const LONG_END: &str = "End each block that is open at the end of an input. The report is that
-of the input with a line `THREAD|end` after its last line for each
-open block, in the order in which the threads appear first. So no
-cycle stays hidden, and a violation may be on one of these lines. Not
-with --files0-from";
-
 pub const END_WITH_LIST: &str = "the argument '--end' cannot be used with '--files0-from <LIST>'";
 
 pub const LONG_WITH_ORDER: &str =
     "the argument '--long' cannot be used with '--order', which keeps each transaction";
 
-pub const FORMAT: &str = "Form of the report: text or json";
-
-pub const LONG_FORMAT: &str = "The form of the report: `text`, or `json` for scripts: one object on
-each line, for each trace in order, and a last one on all of them. A
-name is a string, or {\"bytes\":BASE64} if it isn't UTF-8";
-
 pub const NO_FORM: &str = "invalid value for '--format <FORM>': it takes text or json";
-
-pub const PROGRESS: &str = "Show progress even without a terminal";
-
-pub const LONG_PROGRESS: &str = "Show a line about progress even if standard error isn't a terminal,
-from a fifth of a second on. Without this option the line appears only
-on a terminal, and only if a run lasts over two seconds. It shows how
-many inputs and how many bytes were read. It is updated five times a
-second, and cleared at the end and before anything else is written to
-standard error. With --files0-from it appears once the list has been
-read. The report is the same";
-
-pub const QUIET: &str = "Show no progress, even with --progress";
-
-pub const LONG_QUIET: &str = "Show no progress, even with --progress. Standard error still has the
-notes";
-
-pub const LIST: &str = "Judge the files that LIST names, a byte 0 after each";
-
-pub const LONG_LIST: &str = "Judge the files whose names the file LIST contains, each ended by a
-byte 0 as `find -print0` writes them: at most 65536, in this order. If
-LIST is `-`, the list is read from standard input. The list may be
-empty. If it can't be read, nothing is judged. Not with FILE words";
 
 pub const LIST_WITH_FILES: &str =
     "the argument '--files0-from <LIST>' cannot be used with '[FILE]...'";
-
-pub const LABEL: &str = "Name of standard input in the report";
-
-pub const LONG_LABEL: &str = "The name of standard input in the report, instead of `-`. Any text is
-allowed; if it begins with -, write --label=NAME. Not with FILE words
-or --files0-from";
 
 pub const LABEL_WITH_FILES: &str = "the argument '--label <NAME>' cannot be used with '[FILE]...'";
 
 pub const LABEL_WITH_LIST: &str =
     "the argument '--label <NAME>' cannot be used with '--files0-from <LIST>'";
-
-pub const FAIL_OPEN: &str = "Return status 1 also if blocks are open";
-
-pub const LONG_FAIL_OPEN: &str =
-    "Return status 1 instead of 0 if a trace has open blocks. The report is
-the same";
-
-pub const FILES: &str = "The traces to judge; without one, standard input";
-
-pub const LONG_FILES: &str = "The traces to judge, in this order, at most 65536. Without a FILE the
-program judges standard input, which the report calls `-`. As a FILE,
-`-` is a path like any other. After `--`, every word is a FILE";
 
 pub const REPORT: &str =
     "The report, on standard output, has one line for each trace, in order, and a

@@ -1,14 +1,15 @@
 //! The words of the command line, and what they ask for.
 ghost use Rattle.std.specs.Prelude.{◌≡◌, ◌<◌, ◌≤◌, ◌++◌, ◌∷◌, ◌&&◌, ◌||◌, ◌^◌, [], IfErr, IfOk, None, OnOk, Some, codes, false, length, map, nat_lt, not, option_map, pos, string_bytes, true, vec_len};
-ghost use Rattle.clap.specs.Words.{all_of, app_of, first_of, found_of, one_of, rows_of, rule_of};
+ghost use Rattle.clap.specs.Words.{all_of, app_of, first_of, found_of, new_rule, one_of, rows_of, rule_of};
 ghost use Rattle.clap.specs.declared.builder.value_parser.ValueParser.TheVariants as vp;
 ghost use Rattle.std.specs.List.{list_any};
 ghost use Rattle.aero_program.specs.Command.{are_counted, count_named};
 ghost use Rattle.aero_words.specs.Labels.{AreRefused, IsTold, is_no_label};
-ghost use Rattle.aero_words.specs.Line.{AreAskedFor, AsksFor, files_rule, flag_rule, form_of, form_told, format_rule, is_dash, is_told, label_rule, no_rules, number_rule, number_told, program, progress_told, rows_given, text_rule, texts_told};
-ghost use Rattle.aero_words.specs.Words.{IsRead, ReadsFlag, ReadsWithin};
+ghost use Rattle.aero_words.specs.Line.{AreAskedFor, AsksFor, form_of, form_told, is_dash, is_told, no_rules, number_told, program, program_with, progress_told, rows_given, texts_told};
+ghost use Rattle.aero_words.specs.Words.{IsRead, parser_named, rule_by, rule_of_row};
 
 use crate::help;
+use crate::options::{MOST_PIECE, MOST_WORKERS, OPTIONS, OptionRow, Takes};
 use aero_model::except::MOST_LABELS;
 use aero_model::{Name, NameFault};
 pub use aero_program::command::{Config, Form, MOST_FILES, Progress, Refused, Sources, Terminals};
@@ -18,23 +19,9 @@ use clap::error::ErrorKind;
 use clap::{Arg, ArgAction, ArgMatches, Command, Error, value_parser};
 use std::alloc::{AllocError, Global};
 
-const MOST_WORKERS: u32 = 16;
-
 const DEFAULT_WORKERS: u32 = 4;
 
-const MOST_PIECE: u32 = 1_048_576;
-
 const DEFAULT_PIECE: u32 = 65_536;
-
-const WORKERS: Texts<'static> = Texts {
-    short: help::WORKERS,
-    long: help::LONG_WORKERS,
-};
-
-const PIECE: Texts<'static> = Texts {
-    short: help::PIECE,
-    long: help::LONG_PIECE,
-};
 
 /// Reads the words that follow the program's name.
 pub fn settle_words(alloc: Global, words: &[String]) -> Result<Config, Refused>
@@ -60,30 +47,18 @@ fn matches_of<'a>(alloc: Global, words: &'a [String]) -> Result<ArgMatches<'a>, 
 fn command_line<'a>(alloc: Global) -> Result<Command<'a>, AllocError>
     ensures { IfOk result (λ line. app_of line ≡ program) }
 {
-    bare_line(alloc)
-        .arg(number_option(alloc, "workers", MOST_WORKERS, "4", WORKERS))?
-        .arg(number_option(alloc, "piece", MOST_PIECE, "65536", PIECE))?
-        .arg(label_option(alloc, "except", help::EXCEPT, help::LONG_EXCEPT))?
-        .arg(label_option(alloc, "only", help::ONLY, help::LONG_ONLY))?
-        .arg(label_file_option(
-            alloc,
-            "except-from",
-            help::EXCEPT_FROM,
-            help::LONG_EXCEPT_FROM,
-        ))?
-        .arg(label_file_option(alloc, "only-from", help::ONLY_FROM, help::LONG_ONLY_FROM))?
-        .arg(flag(alloc, "order", help::ORDER, help::LONG_ORDER))?
-        .arg(flag(alloc, "explain", help::EXPLAIN, help::LONG_EXPLAIN))?
-        .arg(flag(alloc, "long", help::LONG, help::LONG_LONG))?
-        .arg(flag(alloc, "stop", help::STOP, help::LONG_STOP))?
-        .arg(flag(alloc, "end", help::END, help::LONG_END))?
-        .arg(format_option(alloc))?
-        .arg(flag(alloc, "progress", help::PROGRESS, help::LONG_PROGRESS))?
-        .arg(flag(alloc, "quiet", help::QUIET, help::LONG_QUIET))?
-        .arg(text_option(alloc, "files0-from", "LIST", help::LIST, help::LONG_LIST))?
-        .arg(text_option(alloc, "label", "NAME", help::LABEL, help::LONG_LABEL))?
-        .arg(flag(alloc, "fail-open", help::FAIL_OPEN, help::LONG_FAIL_OPEN))?
-        .arg(file_words(alloc))
+    line_with(alloc, &OPTIONS)
+}
+
+// The command line with the options of these rows.
+fn line_with<'a>(alloc: Global, rows: &[OptionRow]) -> Result<Command<'a>, AllocError>
+    ensures { IfOk result (λ line. app_of line ≡ program_with (map rule_of_row rows.now)) }
+{
+    let mut line = bare_line(alloc);
+    for row in rows {
+        line = line.arg(option_of(alloc, row))?;
+    }
+    Ok(line)
 }
 
 // The command line without its arguments.
@@ -98,116 +73,50 @@ fn bare_line<'a>(alloc: Global) -> Command<'a>
         .after_long_help(help::REPORT)
 }
 
-// The short help of an option and the long one.
-#[derive(Clone, Copy)]
-struct Texts<'a> {
-    short: &'a str,
-    long: &'a str,
-}
-
-// An option with a number from 1 to `most`.
-fn number_option<'a>(
-    alloc: Global,
-    name: &'a str,
-    most: u32,
-    default: &'a str,
-    texts: Texts<'a>,
-) -> Arg<'a>
-    ensures rule { rule_of result ≡ number_rule name.entry.now most default.entry.now }
+// The option of a row.
+fn option_of<'a>(alloc: Global, row: &OptionRow) -> Arg<'a>
+    ensures rule { rule_of result ≡ rule_of_row row.now }
     ensures local { result.global ≡ false }
 {
-    Arg::new(alloc, name)
-        .long(name)
-        .value_name("N")
-        .action(ArgAction::Set)
-        .value_parser(numbers_to(most))
-        .default_value(default)
-        .help(texts.short)
-        .long_help(texts.long)
+    let option = Arg::new(alloc, row.name)
+        .help(row.help)
+        .long_help(row.long_help);
+    taking(option, row.name, row.takes)
 }
 
-// An option with a label, which may be used more than once.
-fn label_option<'a>(alloc: Global, name: &'a str, text: &'a str, long_text: &'a str) -> Arg<'a>
-    ensures rule { rule_of result ≡ label_rule name.entry.now }
+// A new option with what it takes.
+fn taking<'a>(option: Arg<'a>, name: &'static str, takes: Takes) -> Arg<'a>
+    requires rule { rule_of option ≡ new_rule name.now }
+    requires local { option.global ≡ false }
+    ensures rule { rule_of result ≡ rule_by name.entry.now takes }
     ensures local { result.global ≡ false }
 {
-    Arg::new(alloc, name)
-        .long(name)
-        .value_name("LABEL")
-        .action(ArgAction::Append)
-        .help(text)
-        .long_help(long_text)
-}
-
-// An option with a file of labels, which may be used more than once.
-fn label_file_option<'a>(alloc: Global, name: &'a str, text: &'a str, long_text: &'a str) -> Arg<'a>
-    ensures rule { rule_of result ≡ label_rule name.entry.now }
-    ensures local { result.global ≡ false }
-{
-    Arg::new(alloc, name)
-        .long(name)
-        .value_name("FILE")
-        .action(ArgAction::Append)
-        .help(text)
-        .long_help(long_text)
-}
-
-// An option with a text of its own, which is called so in the help.
-fn text_option<'a>(
-    alloc: Global,
-    name: &'a str,
-    value: &'a str,
-    text: &'a str,
-    long_text: &'a str,
-) -> Arg<'a>
-    ensures rule { rule_of result ≡ text_rule name.entry.now }
-    ensures local { result.global ≡ false }
-{
-    Arg::new(alloc, name)
-        .long(name)
-        .value_name(value)
-        .action(ArgAction::Set)
-        .help(text)
-        .long_help(long_text)
-}
-
-// The option with the form of the report.
-fn format_option<'a>(alloc: Global) -> Arg<'a>
-    ensures rule { rule_of result ≡ format_rule }
-    ensures local { result.global ≡ false }
-{
-    Arg::new(alloc, "format")
-        .long("format")
-        .value_name("FORM")
-        .action(ArgAction::Set)
-        .default_value("text")
-        .help(help::FORMAT)
-        .long_help(help::LONG_FORMAT)
-}
-
-// A flag, with a short help and a long one.
-fn flag<'a>(alloc: Global, name: &'a str, text: &'a str, long_text: &'a str) -> Arg<'a>
-    ensures rule { rule_of result ≡ flag_rule name.entry.now }
-    ensures local { result.global ≡ false }
-{
-    Arg::new(alloc, name)
-        .long(name)
-        .action(ArgAction::SetTrue)
-        .value_parser(ValueParser::bool())
-        .help(text)
-        .long_help(long_text)
-}
-
-fn file_words<'a>(alloc: Global) -> Arg<'a>
-    ensures rule { rule_of result ≡ files_rule }
-    ensures local { result.global ≡ false }
-{
-    Arg::new(alloc, "files")
-        .value_name("FILE")
-        .action(ArgAction::Append)
-        .num_args(0..)
-        .help(help::FILES)
-        .long_help(help::LONG_FILES)
+    match takes {
+        Takes::Flag => option
+            .long(name)
+            .action(ArgAction::SetTrue)
+            .value_parser(ValueParser::bool()),
+        Takes::Number(most, default) => option
+            .long(name)
+            .value_name("N")
+            .action(ArgAction::Set)
+            .value_parser(numbers_to(most))
+            .default_value(default),
+        Takes::Each(value) => option
+            .long(name)
+            .value_name(value)
+            .action(ArgAction::Append),
+        Takes::Once(value) => option.long(name).value_name(value).action(ArgAction::Set),
+        Takes::OnceOr(value, default) => option
+            .long(name)
+            .value_name(value)
+            .action(ArgAction::Set)
+            .default_value(default),
+        Takes::Rest(value) => option
+            .value_name(value)
+            .action(ArgAction::Append)
+            .num_args(0..),
+    }
 }
 
 // What reads a number from 1 to `most`.
@@ -460,7 +369,8 @@ pub fn label_of(alloc: Global, text: &str) -> Result<Name, Refused>
 
 // The number of an option, from 1 to `most`.
 fn number_in(matches: &ArgMatches<'_>, name: &str, most: u32, fallback: u32) -> u32
-    requires reads { ReadsWithin (found_of matches.now) name.now most }
+    requires read { IsRead (found_of matches.now) }
+    requires number { parser_named name.now ≡ Some (vp.Signed (pos 1) (pos most)) }
     requires some { 0 < fallback }
     requires within { fallback ≤ most }
     ensures told { result ≡ number_told fallback (one_of name.now (rows_of (found_of matches.now))) }
@@ -475,7 +385,8 @@ fn number_in(matches: &ArgMatches<'_>, name: &str, most: u32, fallback: u32) -> 
 
 // Whether a flag is given.
 fn flag_in(matches: &ArgMatches<'_>, name: &str) -> bool
-    requires { ReadsFlag (found_of matches.now) name.now }
+    requires read { IsRead (found_of matches.now) }
+    requires flag { parser_named name.now ≡ Some vp.Bool }
     ensures { result ≡ is_told (one_of name.now (rows_of (found_of matches.now))) }
 {
     matches.get_flag(name)
@@ -483,8 +394,7 @@ fn flag_in(matches: &ArgMatches<'_>, name: &str) -> bool
 
 // Whether the serial orders are asked for, and whether long sources are to be judged: not both.
 fn order_and_long_in(alloc: Global, matches: &ArgMatches<'_>) -> Result<(bool, bool), Refused>
-    requires order { ReadsFlag (found_of matches.now) (codes "order") }
-    requires long { ReadsFlag (found_of matches.now) (codes "long") }
+    requires { IsRead (found_of matches.now) }
     ensures order { IfOk result (λ both. both.0 ≡
         is_told (one_of (codes "order") (rows_of (found_of matches.now)))) }
     ensures long { IfOk result (λ both. both.1 ≡
@@ -501,7 +411,7 @@ fn order_and_long_in(alloc: Global, matches: &ArgMatches<'_>) -> Result<(bool, b
 
 // Whether open blocks are to end: not where the files stand in a list.
 fn end_in(alloc: Global, matches: &ArgMatches<'_>, sources: &Sources) -> Result<bool, Refused>
-    requires { ReadsFlag (found_of matches.now) (codes "end") }
+    requires { IsRead (found_of matches.now) }
     ensures told { IfOk result (λ end. end ≡
         is_told (one_of (codes "end") (rows_of (found_of matches.now)))) }
     ensures apart { IfOk result (λ end. (end && not (are_counted sources.now)) ≡ false) }
@@ -620,8 +530,7 @@ fn no_form(alloc: Global) -> Result<Error, AllocError> {
 
 // When the line on progress is shown.
 fn progress_in(matches: &ArgMatches<'_>) -> Progress
-    requires progress { ReadsFlag (found_of matches.now) (codes "progress") }
-    requires quiet { ReadsFlag (found_of matches.now) (codes "quiet") }
+    requires { IsRead (found_of matches.now) }
     ensures { result ≡ progress_told
         (is_told (one_of (codes "quiet") (rows_of (found_of matches.now))))
         (is_told (one_of (codes "progress") (rows_of (found_of matches.now)))) }

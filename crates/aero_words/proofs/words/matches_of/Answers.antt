@@ -1,6 +1,6 @@
 use Rattle.std.proofs.Common.{◌∙◌, ap, map, string_bytes}
 use Rattle.clap.specs.Words.{App, is_simple, matches_of}
-use Rattle.aero_words.proofs.Numbers.{line_read, program_is_simple}
+use Rattle.aero_words.proofs.LineRead.{line_read, program_is_simple}
 use Rattle.aero_words.proofs.words.matches_of.Goals as goal
 
 pub returns-in-Ok-clause-read : goal.returns-in-Ok-clause-read
