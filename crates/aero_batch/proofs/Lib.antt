@@ -1,4 +1,3 @@
-pub mod Alone
 pub mod Apart
 pub mod ByKind
 pub mod Questions

@@ -4,7 +4,7 @@ use Rattle.std.specs.Prelude.{option_map, unwrap_or}
 use Rattle.std.proofs.lemmas.Option.{slice_get-map}
 use Rattle.aero_intake.specs.declared.source.SourceOf.{SourceOf}
 use Rattle.aero_intake.specs.Source.{Sight, origin_in}
-use Rattle.aero_batch.specs.Founds.{Sighted, sighted, whose}
+use Rattle.aero_telling.specs.Founds.{Sighted, sighted, whose}
 use Rattle.aero_batch.specs.Steps.{IsReadFrom}
 use Rattle.aero_intake.proofs.Tracked.{changed_there, changed_elsewhere, set_changed}
 use Rattle.aero_intake.specs.Stories.{changed}

@@ -10,25 +10,25 @@ use Rattle.aero_model.specs.declared.verdict.Ending.{Ending}
 use Rattle.aero_model.specs.declared.verdict.Ending.TheVariants.{Whole, Broken, TooLarge, Stopped}
 use Rattle.aero_model.specs.declared.verdict.Finding.TheVariants as findings
 use Rattle.aero_grammar.specs.Reading.{reading_of}
-use Rattle.aero_lines.specs.Cutting.{nothing_yet, block_of, blocks_from}
+use Rattle.aero_lines.specs.Cutting.{nothing_yet, block_of}
 use Rattle.aero_pieces.specs.declared.question.Question.{Question}
 use Rattle.aero_batch.specs.declared.underway.Underway.{Underway}
 use Rattle.aero_intake.specs.declared.track.Track.{Track}
 use Rattle.aero_intake.specs.declared.track.Track.TheVariants.{Arriving, Arrived, Checking, Found}
-use Rattle.aero_batch.specs.Founds.{Sighted}
-use Rattle.aero_batch.specs.Holding.{Holds, HasEnded, HasCome, HasComeFrom, nothing_known}
+use Rattle.aero_telling.specs.Founds.{Sighted}
+use Rattle.aero_batch.specs.Holding.{Holds, HasEnded, HasComeFrom, nothing_known}
 use Rattle.aero_batch.specs.Inquiries.{Inquired, AreApart, all_open}
 use Rattle.aero_intake.specs.Held.{Known, IsDecisive}
-use Rattle.aero_intake.specs.Intake.{Taking, IsTaken, HaveCome, Ends, with_passing, fed_all}
+use Rattle.aero_intake.specs.Intake.{Taking, IsTaken, HaveCome, HasCome, with_passing, fed_all}
 use Rattle.aero_intake.specs.Source.{Sight, WasRead}
 use Rattle.aero_batch.specs.Steps.{TakesPiece, NotesEnding, CutsHeld, PassesOver, PassesOn, StopsReading, IsReadFrom, DecidesThere, HasDecided, HasEnough, IsWanted}
 use Rattle.aero_batch.specs.Steps.{with_chunk, last_of, ended_track}
-use Rattle.aero_intake.specs.Stories.{Story, AreEnough, BeginAlike, Suffices, IsTracked, AreTracked, changed}
+use Rattle.aero_intake.specs.Stories.{Story, AreEnough, BeginAlike, IsTracked, AreTracked, changed}
 use Rattle.aero_batch.proofs.Apart.{chunk_apart}
 use Rattle.aero_batch.proofs.Retold.{retold, retold_there, retold_same, retold_elsewhere, with_pieces, chunk_tracked, still_arriving}
 use Rattle.aero_intake.proofs.Taken.{nothing_is_taken, piece_is_held, held_is_cut, held_is_passed, cut_bytes, chunks_with_last, nothing_has_come}
-use Rattle.aero_intake.proofs.Taken.{more_has_come, source_was_read, source_was_stopped, chunks_with_more}
-use Rattle.aero_intake.proofs.Tracked.{changed_there, changed_elsewhere, before_change, enough_asked, alike_dropped, begin_alike, settled_decide}
+use Rattle.aero_intake.proofs.Taken.{more_has_come, not_stopped, source_was_read, source_was_stopped}
+use Rattle.aero_intake.proofs.Tracked.{changed_there, changed_elsewhere, before_change, enough_asked, alike_dropped, alike_with_more, begin_alike, settled_decide}
 use Rattle.aero_model.specs.Terms.{Terms}
 
 the_some : {A : Type 0} (x y : A) → Some x ≡ Some y → x ≡ y
@@ -39,11 +39,6 @@ not_both b is_true is_false = cc (is_true, is_false)
 
 pub not_none : {A : Type 0} (o : Option A) (x : A) → o ≡ None → o ≡ Some x → ⊥
 not_none o x none some = cc (none, some)
-
--- a reading that has ended by itself wasn't stopped
-not_stopped : (before after : Sight) (limit count : ℕ) (ending : Ending) → Ends before after limit count ending → Some ending ≡ Some Stopped → ⊥
-not_stopped before after limit count ending ends same =
-    subst (λ e. Ends before after limit count e) (the_some ending Stopped same) ends
 
 -- what became of the other sources stays
 ended_stays : (terms : Terms) (old now after : List Sighted) (place s : ℕ) (story : Story) →
@@ -267,13 +262,6 @@ passing_over_holds terms old now after p q tale before_read after_read from unre
           }),
       λ s less. elsewhere s (λ e. omega (arith, less, e)),
     )
-
--- what was asked about begins as the chunks of whatever could follow
-alike_with_more : (terms : Terms) (asked cut pieces : List (List ℕ)) (i : Taking) (more : List ℕ) → IsTaken i pieces cut → BeginAlike terms asked cut →
-    BeginAlike terms asked (blocks_from nothing_yet (pieces ++ more ∷ []))
-alike_with_more terms asked cut pieces i more taken alike =
-    let all = chunks_with_more i pieces cut more taken in
-    subst (λ bs. BeginAlike terms asked bs) all.1 (alike_dropped terms asked cut all.0 alike)
 
 -- a source that was arriving has ended
 ended_track_fits : (terms : Terms) (qs : List Question) (s count chunks : ℕ) (ending : Ending) (i : Taking) (pieces cut all : List (List ℕ)) (known : Known) →

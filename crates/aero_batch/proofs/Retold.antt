@@ -11,7 +11,7 @@ use Rattle.aero_pieces.specs.declared.question.Question.TheVariants.{Parse, Chec
 use Rattle.aero_batch.specs.declared.underway.Underway.{Underway}
 use Rattle.aero_intake.specs.declared.track.Track.{Track}
 use Rattle.aero_intake.specs.declared.track.Track.TheVariants.{Arriving, Arrived, Checking, Found}
-use Rattle.aero_batch.specs.Founds.{Sighted}
+use Rattle.aero_telling.specs.Founds.{Sighted}
 use Rattle.aero_batch.specs.Holding.{Holds, HasComeFrom}
 use Rattle.aero_batch.specs.declared.kind.Kind.{Kind}
 use Rattle.aero_batch.specs.declared.kind.Kind.TheVariants as kinds

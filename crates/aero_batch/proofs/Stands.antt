@@ -1,71 +1,45 @@
 -- What holds between two steps is kept by each, and says what was written where the run stops.
-use Rattle.std.proofs.Common.{◌≡◌, ℕ, zero, suc, ◌+◌, ◌<◌, ◌≤◌, ◌^◌, Bool, true, false, List, [], ◌∷◌, ◌++◌, map, length, take, slice_get, Option, Some, None}
+use Rattle.std.proofs.Common.{◌≡◌, ℕ, zero, suc, ◌<◌, ◌≤◌, ◌^◌, Bool, true, false, List, [], ◌∷◌, ◌++◌, map, length, slice_get, Option, Some, None}
 use Rattle.std.proofs.Common.{Result, Ok, Err, refl, sym, ◌∙◌, ap, ap₂, subst, inl, inr, arith}
-use Rattle.std.specs.Prelude.{IfOk, IfErr, replicate, ◌⊎◌, vec_len}
+use Rattle.std.specs.Prelude.{IfOk, IfErr, replicate, vec_len}
 use Rattle.std.specs.List.{concat}
-use Rattle.std.proofs.KnownBytes.{Appends-nil, Appends-trans}
+use Rattle.std.proofs.KnownBytes.{Appends-nil}
 use Rattle.std.proofs.lemmas.List.{append-nil, length-map, map-append, length_push, length-replicate}
-use Rattle.std.proofs.lemmas.Grind.{flat_map-append}
-use Rattle.std.proofs.lemmas.List.Sums.{fold-append}
 use Rattle.std.proofs.lemmas.Option.{slice_get_within}
-use Rattle.aero_model.specs.declared.verdict.Counts.{Counts}
-use Rattle.aero_model.specs.declared.verdict.Ending.{Ending}
 use Rattle.aero_model.specs.declared.verdict.Ending.TheVariants.{Stopped}
 use Rattle.aero_model.specs.declared.verdict.Found as model
 use Rattle.aero_model.specs.CallCounts.{Seen}
-use Rattle.aero_model.specs.Verdicts.{counts_of, counted, no_counts, total}
+use Rattle.aero_model.specs.Verdicts.{counted, total}
 use Rattle.aero_report.specs.declared.form.Form.{Form}
-use Rattle.aero_report.specs.Forms.{source_line_in, source_lines_in}
-use Rattle.aero_batch.specs.declared.outcome.Cause.{Cause}
-use Rattle.aero_batch.specs.declared.outcome.Cause.TheVariants.{Memory, Write}
-use Rattle.aero_batch.specs.declared.outcome.Notable.{Notable}
+use Rattle.aero_report.specs.Forms.{source_line_in}
+use Rattle.aero_telling.specs.declared.cause.Cause.{Cause}
+use Rattle.aero_telling.specs.declared.cause.Cause.TheVariants.{Memory, Write}
 use Rattle.aero_batch.specs.declared.underway.Underway.{Underway}
-use Rattle.aero_batch.specs.declared.told.Told.{Told}
+use Rattle.aero_telling.specs.declared.told.Told.{Told}
 use Rattle.aero_intake.specs.declared.track.Track.{Track}
 use Rattle.aero_intake.specs.declared.track.Track.TheVariants as tracks
-use Rattle.aero_batch.specs.Notables.{notable_of}
-use Rattle.aero_batch.specs.Founds.{Sighted, whose, Found, IsFoundAt, AreOfTheFirst, told, ending_of, notable, lines_of_all, counts_of_all, Took, IsNextText}
-use Rattle.aero_batch.specs.Founds.{WasCutOff, IsWritten, WasRunTo, WasTold, no_text}
+use Rattle.aero_telling.specs.Notables.{notable_of}
+use Rattle.aero_telling.specs.Founds.{Sighted, whose, Found, IsFoundAt, AreOfTheFirst, ending_of, notable, lines_of_all, Took}
+use Rattle.aero_telling.specs.Founds.{IsWritten, WasTold, no_text}
 use Rattle.aero_batch.specs.Holding.{Holds, HasComeFrom, Counted, AreTold, Tells, Stands, HasNumbers, IsBegun, nothing_known}
 use Rattle.aero_batch.specs.Inquiries.{Inquired, AreApart, all_open, open_count}
 use Rattle.aero_intake.specs.Held.{nothing_read}
 use Rattle.aero_intake.specs.Intake.{Taking, IsTaken, HaveCome}
 use Rattle.aero_intake.specs.Source.{WasRead}
 use Rattle.aero_batch.specs.Steps.{IsStart, Steps, ReadsOn}
-use Rattle.aero_batch.specs.Telling.{SumsUp, WasCut, TellsFound, TellsNext, IsOneMore}
+use Rattle.aero_telling.specs.Telling.{WasCut, TellsFound, IsOneMore}
+use Rattle.aero_batch.specs.Telling.{TellsNext}
 use Rattle.aero_intake.specs.Stories.{Story, IsTracked}
 use Rattle.aero_batch.proofs.Apart.{nothing_apart}
 use Rattle.aero_batch.proofs.Readings.{not_none, taking_holds, noting_holds, stopping_holds, cutting_holds, passing_over_holds, passing_holds}
 use Rattle.aero_intake.proofs.Taken.{nothing_is_taken, nothing_has_come}
 use Rattle.aero_batch.proofs.Retold.{settling_holds, checking_holds}
 use Rattle.aero_batch.proofs.Sums.{settling_counted, checking_counted, taking_counted, noting_counted, cutting_counted, passing_counted, stopping_counted, ending_counted}
+use Rattle.aero_telling.proofs.Tellings.{the_some, get_push, slice_get_some, lines_more, counts_more, took_more, took_nothing, cut_off}
 use Rattle.aero_model.specs.Terms.{Terms}
-
-pub the_some : {A : Type 0} (x y : A) → Some x ≡ Some y → x ≡ y
-the_some x y p = cc p
 
 not_both : (b : Bool) → b ≡ true → b ≡ false → ⊥
 not_both b is_true is_false = cc (is_true, is_false)
-
--- the element at a place of a list with one more
-pub get_push : {A : Type 0} (xs : List A) (x : A) (s : ℕ) (y : A) → slice_get (xs ++ x ∷ []) s ≡ Some y → (slice_get xs s ≡ Some y) ⊎ ((s ≡ length xs) × (y ≡ x))
-get_push [] x zero y at = inr (refl, sym (the_some x y at))
-get_push [] x (suc s) y at = cc
-get_push (c ∷ xs) x zero y at = inl at
-get_push (c ∷ xs) x (suc s) y at = elim (get_push xs x s y at) [ inl is ↦ inl is | inr is ↦ inr (ap suc is.0, is.1) ]
-
--- what is told of one more source
-
-pub lines_more : (form : Form) (founds : List Found) (f : Found) →
-    lines_of_all form (founds ++ f ∷ []) ≡ lines_of_all form founds ++ source_line_in form f.name f.finding
-lines_more form founds f =
-    ap (source_lines_in form) (map-append told founds (f ∷ []))
-    ∙ (flat_map-append (λ s. source_line_in form s.0 s.1) (map told founds) (told f ∷ [])
-    ∙ ap (λ bs. lines_of_all form founds ++ bs) (append-nil (source_line_in form f.name f.finding)))
-
-pub counts_more : (founds : List Found) (f : Found) → counts_of_all (founds ++ f ∷ []) ≡ counted (counts_of_all founds) f.finding
-counts_more founds f =
-    ap counts_of (map-append (λ x. x.finding) founds (f ∷ [])) ∙ fold-append counted no_counts (map (λ x. x.finding) founds) (f.finding ∷ [])
 
 -- the tracks that may be told are those of sources that have ended
 found_tells : (terms : Terms) (old now : List Sighted) (p : Underway) (tale : ℕ → Story) (place : ℕ) (g : model.Found) →
@@ -108,17 +82,6 @@ found_first terms old now p tale founds holds tells few place f at =
         finding = t.finding;
       };
     }
-
--- a text after those that were written
-
-pub took_more : (before mid after : Seen) (text more : List ℕ) → Took before mid text → Took mid after more → Took before after (text ++ more)
-took_more before mid after text more first then = record {
-  went = Appends-trans before.bytes mid.bytes after.bytes text more first.went then.went;
-  faults = then.faults ∙ first.faults;
-}
-
-pub took_nothing : (before mid after : Seen) (text : List ℕ) → Took before mid text → Took mid after [] → Took before after text
-took_nothing before mid after text first then = subst (λ t. Took before after t) (append-nil text) (took_more before mid after text [] first then)
 
 -- a source keeps its name
 name_then : (old now : List Sighted) (s : ℕ) (b : Sighted) {name : List ℕ} → map whose now ≡ map whose old → slice_get old s ≡ Some b →
@@ -203,18 +166,6 @@ memory_stops terms form old now now' before mid after p a st same names took =
     stopped terms form old now now' before mid after p a st (Some Memory) same names
     (took_nothing before mid after (lines_of_all form st.founds) st.are_told.took took)
 
-cut_off : (terms : Terms) (form : Form) (last : Counts → List ℕ) (old now : List Sighted) (before mid after : Seen) (founds : List Found) (text : List ℕ) →
-    IsNextText terms form last old now founds text → Took before mid (lines_of_all form founds) → WasCut mid after text →
-    WasCutOff terms form last old now founds before after
-cut_off terms form last old now before mid after founds text next took cut = record {
-  text = text;
-  next = next;
-  written = cut.written;
-  part = cut.part;
-  went = Appends-trans before.bytes mid.bytes after.bytes (lines_of_all form founds) (take cut.written text) took.went cut.went;
-  faults = cut.faults ∙ ap (λ n. n + 1) took.faults;
-}
-
 -- a write of the next source's line failed
 pub line_stops : (terms : Terms) (form : Form) (old now : List Sighted) (before mid after : Seen) (p : Underway) (a : Told) (g : model.Found)
     (name : List ℕ) →
@@ -265,11 +216,6 @@ still_told terms form old before mid p q a tale new founds below more same t = r
   room = t.room;
   notables_room = t.notables_room;
 }
-
-pub slice_get_some : {A : Type 0} (xs : List A) (i : ℕ) → i < length xs → (x : A) × (slice_get xs i ≡ Some x)
-slice_get_some [] i less = absurd (omega (arith, less))
-slice_get_some (x ∷ xs) zero less = (x, refl)
-slice_get_some (x ∷ xs) (suc i) less = slice_get_some xs i (omega (arith, less))
 
 -- what holds of the sources after a step: what became of those that had ended stays
 pub record Goes (terms : Terms) (old after : List Sighted) (p q : Underway) (tale : ℕ → Story) : Type 0 where
@@ -508,18 +454,6 @@ begun_stands terms form old before p a is = record {
   names = refl;
 }
 
--- memory was refused before the first step
-pub refused_at_once : (terms : Terms) (form : Form) (old : List Sighted) (before : Seen) → WasTold terms form old old before before [] [] no_counts (Some Memory)
-refused_at_once terms form old before = record {
-  founds = [];
-  found = λ place f at. cc (at);
-  names = refl;
-  ended = refl;
-  notable = refl;
-  counted = refl;
-  written = record { went = Appends-nil before.bytes; faults = refl };
-}
-
 -- at the end: all sources are told
 pub all_done : (terms : Terms) (form : Form) (old now : List Sighted) (before mid : Seen) (p : Underway) (a : Told) →
     vec_len a.endings ≡ length now → Stands terms form old now before mid p a →
@@ -530,65 +464,3 @@ all_done terms form old now before mid p a all st =
     ∙ (all ∙ (sym (length-map now whose) ∙ (ap length st.names ∙ length-map old whose))) in
     stopped terms form old now now before mid mid p a st None (λ s less. refl) refl
     (told_all, subst (λ text. Took before mid text) (sym (append-nil (lines_of_all form st.founds))) st.are_told.took)
-
--- no text is cut off that has nothing
-no_part : (written : ℕ) (text : List ℕ) → text ≡ [] → written < length text → ⊥
-no_part written text none part = let nothing : length text ≡ 0 = ap length none in omega (arith, nothing, part)
-
--- where the lines were cut off, what stands behind them doesn't count
-cut_before : (terms : Terms) (form : Form) (last : Counts → List ℕ) (old new : List Sighted) (founds : List Found) (before after : Seen) →
-    WasCutOff terms form no_text old new founds before after → WasCutOff terms form last old new founds before after
-cut_before terms form last old new founds before after cut = record {
-  text = cut.text;
-  next = elim cut.next [ inl is ↦ inl is | inr is ↦ absurd (no_part cut.written cut.text is.1 cut.part) ];
-  written = cut.written;
-  part = cut.part;
-  went = cut.went;
-  faults = cut.faults;
-}
-
--- behind the lines stands the last text, or not
-pub summed : (terms : Terms) (form : Form) (last : Counts → List ℕ) (old new : List Sighted) (before mid after : Seen) (endings : List (ℕ × Ending))
-    (faults : List (Option Notable)) (counts : Counts) (first cause : Option Cause) →
-    WasTold terms form old new before mid endings faults counts first → SumsUp (last counts) first mid after cause →
-    WasRunTo terms form last old new before after endings faults counts cause
-summed terms form last old new before mid after endings faults counts first cause was sums = record {
-  founds = was.founds;
-  found = was.found;
-  names = was.names;
-  ended = was.ended;
-  notable = was.notable;
-  counted = was.counted;
-  written = go first cause was.written sums;
-}
-  where
-    alone : Took before mid (lines_of_all form was.founds ++ []) → Took before mid (lines_of_all form was.founds)
-    alone took = subst (λ text. Took before mid text) (append-nil (lines_of_all form was.founds)) took
-
-    go : (first cause : Option Cause) → IsWritten terms form no_text old new was.founds before mid first → SumsUp (last counts) first mid after cause →
-        IsWritten terms form last old new was.founds before after cause
-    go (Some Memory) cause written sums = subst (λ c. IsWritten terms form last old new was.founds before after c) (sym sums.1)
-        (subst (λ (s : Seen). Took before s (lines_of_all form was.founds)) (sym sums.0) written)
-    go (Some Write) cause written sums = subst (λ c. IsWritten terms form last old new was.founds before after c) (sym sums.1)
-        (subst (λ (s : Seen). WasCutOff terms form last old new was.founds before s) (sym sums.0)
-        (cut_before terms form last old new was.founds before mid written))
-    go None None written sums = (
-      written.0,
-      subst (λ c. Took before after (lines_of_all form was.founds ++ last c)) was.counted
-          (took_more before mid after (lines_of_all form was.founds) (last counts) (alone written.1) sums),
-    )
-    go None (Some Memory) written sums = took_nothing before mid after (lines_of_all form was.founds) (alone written.1) sums
-    go None (Some Write) written sums =
-        cut_off terms form last old new before mid after was.founds (last (counts_of_all was.founds)) (inr (written.0, refl)) (alone written.1)
-        (subst (λ c. WasCut mid after (last c)) was.counted sums)
-
--- the same by lists and counts that are the same
-pub summed_so : (terms : Terms) (form : Form) (last : Counts → List ℕ) (old new : List Sighted) (before mid after : Seen) (es endings : List (ℕ × Ending))
-    (fs faults : List (Option Notable)) (cs counts : Counts) (first cause : Option Cause) → endings ≡ es → faults ≡ fs → counts ≡ cs →
-    WasTold terms form old new before mid es fs cs first → SumsUp (last cs) first mid after cause →
-    WasRunTo terms form last old new before after endings faults counts cause
-summed_so terms form last old new before mid after es endings fs faults cs counts first cause same_endings same_faults same_counts was sums =
-    subst (λ x. WasRunTo terms form last old new before after x faults counts cause) (sym same_endings)
-    (subst (λ x. WasRunTo terms form last old new before after es x counts cause) (sym same_faults)
-    (subst (λ (x : Counts). WasRunTo terms form last old new before after es fs x cause) (sym same_counts)
-    (summed terms form last old new before mid after es fs cs first cause was sums)))

@@ -7,10 +7,10 @@ use Rattle.aero_model.specs.CallCounts.{Seen}
 use Rattle.aero_model.specs.Verdicts.{no_counts, total}
 use Rattle.aero_report.specs.declared.form.Form.{Form}
 use Rattle.aero_batch.specs.declared.underway.Underway.{Underway}
-use Rattle.aero_batch.specs.declared.told.Told.{Told}
-use Rattle.aero_batch.specs.Founds.{Sighted, whose, Found, Took, ending_of, counts_of_all, lines_of_all, notable}
-use Rattle.aero_intake.specs.Intake.{IsTaken, HaveCome}
-use Rattle.aero_intake.specs.Source.{Sight, WasRead}
+use Rattle.aero_telling.specs.declared.told.Told.{Told}
+use Rattle.aero_telling.specs.Founds.{Sighted, whose, Found, Took, ending_of, counts_of_all, lines_of_all, notable}
+use Rattle.aero_intake.specs.Intake.{IsTaken, HasCome}
+use Rattle.aero_intake.specs.Source.{WasRead}
 use Rattle.aero_batch.specs.Inquiries.{AreApart, all_open, open_count}
 use Rattle.aero_batch.specs.Steps.{IsStart}
 use Rattle.aero_intake.specs.Stories.{Story, AreEnough, BeginAlike, AreTracked}
@@ -31,12 +31,7 @@ pub record HasEnded (terms : Terms) (old now : List Sighted) (s : ℕ) (story : 
   pub ended : story.ending ≡ Some ending
   pub read : WasRead before.reader after.reader terms.rules.limits.bytes (concat story.pieces) ending
 
--- These bytes have come from a reader, and it has ended so, if it has.
-abbrev pub HasCome : (before after : Sight) (limit : ℕ) (bytes : List ℕ) → Option Ending → Type 0
-HasCome before after limit bytes None = HaveCome before after bytes
-HasCome before after limit bytes (Some ending) = WasRead before after limit bytes ending
-
--- The same of the source at place s.
+-- These bytes have come from the source at place s, and it has ended so, if it has.
 abbrev pub HasComeFrom : Terms → List Sighted → List Sighted → ℕ → List ℕ → Option Ending → Type 0
 HasComeFrom terms old now s bytes ending =
     (before after : Sighted) → slice_get old s ≡ Some before → slice_get now s ≡ Some after →

@@ -2,12 +2,9 @@
 -- (what is noted of a source beside its line).
 -- For proofs alone: Holding, Inquiries, Lending, Replies, Runs, Steps and Telling, which only private functions cite.
 -- Inquiries and Replies say which questions are open, and which answers are of use.
-pub mod Alone
-pub mod Founds
 pub mod Holding
 pub mod Inquiries
 pub mod Lending
-pub mod Notables
 pub mod Replies
 pub mod Runs
 pub mod Steps

@@ -1,10 +1,10 @@
 -- The lines of a run by a plan, and what a step of it keeps or ends.
 use Rattle.std.specs.Prelude.{List, Option, Some}
 use Rattle.aero_model.specs.CallCounts.{Seen}
-use Rattle.aero_batch.specs.declared.outcome.Cause.{Cause}
-use Rattle.aero_batch.specs.declared.told.Told.{Told}
+use Rattle.aero_telling.specs.declared.cause.Cause.{Cause}
+use Rattle.aero_telling.specs.declared.told.Told.{Told}
 use Rattle.aero_batch.specs.declared.underway.Underway.{Underway}
-use Rattle.aero_batch.specs.Founds.{Sighted, WasTold}
+use Rattle.aero_telling.specs.Founds.{Sighted, WasTold}
 use Rattle.aero_batch.specs.Holding.{Stands}
 use Rattle.aero_intake.specs.declared.plan.Plan.{Plan}
 use Rattle.aero_intake.specs.PlanTerms.{terms_of}

@@ -3,8 +3,8 @@
 //! `run` reads the sources one after the other. Each is cut into chunks of whole lines, as often as 262,144
 //! bytes of it have come, and a crew of workers reads the chunks and finds the verdicts. The lines of the
 //! report stand in the order of the sources, and each says what the definitions say of the bytes that were
-//! read, whatever the pieces, the number of workers and the order of their answers: `specs/Founds.antt` has
-//! it in full.
+//! read, whatever the pieces, the number of workers and the order of their answers: `specs/Founds.antt` of
+//! aero_telling has it in full.
 //! `run_over` is the same with any helpers, of whom nothing is promised but how many they are. `run_lines` and
 //! `run_lines_over` write the lines alone, and `told::sum_up` a summary behind them.
 //!
@@ -53,7 +53,6 @@
 #![tactic(auto)]
 
 mod checking;
-pub mod find;
 mod gathers;
 pub mod helpers;
 mod inquiry;
@@ -65,10 +64,10 @@ pub mod run;
 pub mod setting;
 mod standing;
 mod step;
-pub mod told;
+mod tell;
 mod underway;
 
 pub use aero_intake::{intake, laws, plan, source};
+pub use aero_telling::{sum_up, told};
 pub use outcome::{Cause, Fault, FaultyLine, Notable, Outcome};
-pub use run::{run_lines, run_lines_over, run_over};
-pub use told::sum_up;
+pub use run::{run_in_turn, run_lines, run_lines_over, run_over};

@@ -1,38 +1,7 @@
 //! What a run comes to.
 use aero_gather::Tally;
-use aero_model::{Counts, Ending, LineFault, ShapeFault};
-
-/// Why a run stopped before its end.
-#[derive(Clone, Copy, Debug, PartialEq, Eq)]
-pub enum Cause {
-    /// Memory was refused.
-    Memory,
-    /// A write failed, or took nothing.
-    Write,
-}
-
-/// What is wrong with a line: it is no event, or its event can't stand there.
-#[derive(Clone, Copy, Debug, PartialEq, Eq)]
-pub enum Fault {
-    Malformed(LineFault),
-    IllFormed(ShapeFault),
-}
-
-/// The faulty line of a source: its number, from 1, and what is wrong with it.
-#[derive(Clone, Copy, Debug, PartialEq, Eq)]
-pub struct FaultyLine {
-    pub line: u32,
-    pub fault: Fault,
-}
-
-/// What a run notes of a source beside its line in the report.
-#[derive(Clone, Copy, Debug, PartialEq, Eq)]
-pub enum Notable {
-    /// This line is faulty, and so the verdict says.
-    Faulty(FaultyLine),
-    /// The source is serializable, and there was no block to check: none begins, or each has a label that is left out.
-    Unchecked,
-}
+use aero_model::{Counts, Ending};
+pub use aero_telling::{Cause, Fault, FaultyLine, Notable};
 
 /// What a run came to. It speaks of the sources whose text was written whole, in their order: how
 /// many bytes were read of each and how its reading ended, what is noted of it beside its line, if

@@ -5,23 +5,24 @@ ghost use Rattle.aero_model.specs.Verdicts.{no_counts};
 ghost use Rattle.aero_model.specs.CallCounts.{seen_by};
 ghost use Rattle.aero_intake.specs.PlanTerms.{options_in, terms_of};
 ghost use Rattle.aero_intake.specs.Source.{counted};
-ghost use Rattle.aero_batch.specs.Founds.{sighted, WasRun, WasTold};
+ghost use Rattle.aero_telling.specs.Founds.{sighted, WasRun, WasTold};
 ghost use Rattle.aero_batch.specs.Inquiries.{open_count};
 ghost use Rattle.aero_batch.specs.Holding.{HasNumbers, IsBegun};
 ghost use Rattle.aero_batch.specs.Runs.{HasRun, KeepsStanding, StopsRun};
-ghost use Rattle.aero_batch.specs.Telling.{SumsUp};
+ghost use Rattle.aero_telling.specs.Telling.{SumsUp};
 
 use crate::helpers::{Helpers, Nobody};
 use crate::outcome::{Cause, Outcome};
 use crate::setting::Setting;
 use crate::standing::Standing;
 use crate::step::step;
-use crate::told::{Style, Told, sum_up, tell_next};
+use crate::tell::tell_next;
 use crate::underway::Underway;
 use aero_gather::Tally;
 use aero_intake::{Followed, Plan, Source, SourceOf};
 use aero_model::{Counting, Counts};
-use aero_worker::{Crew, Gate};
+use aero_telling::{Report, Style, Told, sum_up};
+use aero_worker::{Crew, Gate, NoGate};
 use std::alloc::{AllocError, Global};
 use std::io::{Read, Write};
 use std::sync::{Arc, Wait};
@@ -186,6 +187,44 @@ fn begin(alloc: Global, plan: &Plan, sources: usize, is_alone: bool) -> Result<S
     let told = Told::new(alloc, sources)?;
     let underway = Underway::new(alloc, plan, sources, is_alone)?;
     Ok(Standing { underway, told })
+}
+
+/// The lines alone, by `run_lines`, over sources that are handed over and come back, in their order: it is called as
+/// `aero_lanes::run_in_lanes` is. For one source, and for small ones, it is faster.
+pub fn run_in_turn<R: Followed, W: Write, T: Threads + Wait + Copy + Send + 'static>(
+    rt: T,
+    alloc: Global,
+    mut sources: Vec<SourceOf<R>>,
+    writer: &mut Counting<W>,
+    plan: &Plan,
+) -> (Report, Vec<SourceOf<R>>)
+    requires { vec_len sources ≤ 65536 }
+    ensures told { WasTold (terms_of plan.now) plan.now.form (map (sighted R.sight) sources.items)
+        (map (sighted R.sight) result.1.items)
+        (seen_by W.contents writer.old) (seen_by W.contents writer.new) result.0.told.endings.items
+        result.0.told.notables.items result.0.told.counts result.0.cause }
+{
+    let Ok(gate) = Arc::new(alloc, NoGate) else {
+        return (Report::refused(alloc), sources);
+    };
+    let setting = Setting {
+        rt: &rt,
+        alloc,
+        plan,
+    };
+    let Outcome {
+        endings,
+        notables,
+        counts,
+        cause,
+        ..
+    } = run_lines(&setting, &mut sources, writer, gate);
+    let told = Told {
+        endings,
+        notables,
+        counts,
+    };
+    (Report { told, cause }, sources)
 }
 
 // Where memory was refused before the first step.

@@ -1,6 +1,6 @@
 //! What stands between two steps of a run.
-use crate::told::Told;
 use crate::underway::Underway;
+use aero_telling::Told;
 
 /// How far a run is, and what was told in it.
 #[derive(Drop)]

@@ -1,6 +1,6 @@
 //! One step of a run.
 ghost use Rattle.std.specs.Prelude.{◌≡◌, ◌<◌, ◌≤◌, ℕ, length, map, slice_get, OnOk};
-ghost use Rattle.aero_batch.specs.Founds.{sighted, whose};
+ghost use Rattle.aero_telling.specs.Founds.{sighted, whose};
 ghost use Rattle.aero_batch.specs.Holding.{Counted};
 ghost use Rattle.aero_intake.specs.PlanTerms.{terms_of};
 ghost use Rattle.aero_batch.specs.Steps.{Steps};

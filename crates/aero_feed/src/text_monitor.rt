@@ -10,7 +10,6 @@ ghost use Rattle.aero_feed.specs.Feeding.{nothing_fed, FeedsOn, IsTextVerdict, I
 ghost use Rattle.aero_feed.specs.Reads.{IsJudgedOut};
 
 use crate::ghost_text::GhostText;
-use aero_grammar::parse_block;
 use aero_lines::Cutter;
 use aero_model::{Cycle, Except, Terms, Verdict};
 use aero_verdict::Judge;
@@ -23,7 +22,7 @@ pub(crate) struct TextMonitor {
     alloc: Global,
     terms: Terms,
     cutter: Cutter,
-    judge: Box<Judge, Global>,
+    judge: Judge,
     is_spent: bool,
     text: GhostText,
 }
@@ -38,16 +37,16 @@ impl Model for TextMonitor {
     ghost use Rattle.aero_verdict.specs.Judging.{judging_of};
 
     ghost view = { λ t. record {
-      rules = (judging_of t.judge.value).terms.rules;
-      explains = (judging_of t.judge.value).terms.explain;
+      rules = (judging_of t.judge).terms.rules;
+      explains = (judging_of t.judge).terms.explain;
       text = t.text.bytes;
-      certain = (judging_of t.judge.value).certain;
+      certain = (judging_of t.judge).certain;
       is_spent = t.is_spent;
     } };
 
     ghost invariant = { λ t. record {
-      labels : t.terms.rules.labels ≡ (judging_of t.judge.value).terms.rules.labels;
-      stands : t.is_spent ≡ false → StandsAt t.text.bytes t.cutter (judging_of t.judge.value) (judging_of t.judge.value).certain;
+      labels : t.terms.rules.labels ≡ (judging_of t.judge).terms.rules.labels;
+      stands : t.is_spent ≡ false → StandsAt t.text.bytes t.cutter (judging_of t.judge) (judging_of t.judge).certain;
     } };
 }
 
@@ -56,7 +55,7 @@ impl TextMonitor {
     pub(crate) fn new(alloc: Global, terms: Terms) -> Result<TextMonitor, AllocError>
         ensures { IfOk result (λ monitor. monitor ≡ nothing_fed terms.rules terms.explain) }
     {
-        let judge = Box::new(alloc, Judge::new(alloc, &terms))?;
+        let judge = Judge::new(alloc, &terms)?;
         Ok(TextMonitor {
             alloc,
             cutter: Cutter::new(alloc),
@@ -136,11 +135,10 @@ impl TextMonitor {
             alloc,
             terms,
             cutter,
-            judge,
+            mut judge,
             is_spent,
             text: _,
         } = self;
-        let mut judge = Box::into_inner(judge);
         let judged = judge_rest(alloc, cutter, &mut judge, terms.except(), is_spent);
         let verdict = judge.verdict();
         judged?;
@@ -194,31 +192,11 @@ fn judge_piece(
 {
     match cutter.feed(piece)? {
         None => Ok(()),
-        Some(block) => judge_block(alloc, judge, except, block.bytes()),
+        Some(block) => {
+            judge.feed_text(alloc, block.bytes(), except)?;
+            Ok(())
+        }
     }
-}
-
-// Judges a block of whole lines.
-fn judge_block(
-    alloc: Global,
-    judge: &mut Judge,
-    except: &Except,
-    block: &[u8],
-) -> Result<(), AllocError>
-    requires labels { except.now ≡ (judging_of judge.old).terms.rules.labels }
-    requires short { length block.now ≤ 2 ^ 30 }
-    requires open { (judging_of judge.old).certain ≡ None }
-    ensures terms { (judging_of judge.new).terms ≡ (judging_of judge.old).terms }
-    ensures parts { OnOk result ((judging_of judge.new).parts ≡ (judging_of judge.old).parts ++
-        reading_of block.now ∷ []) }
-    ensures certain { IfSome (judging_of judge.new).certain
-        (IsCertain (judging_of judge.new).parts (judging_of judge.new).terms.rules) }
-    ensures going_on { OnOk result ((judging_of judge.new).certain ≡ None →
-        IsOpen (judging_of judge.new).parts (judging_of judge.new).terms.rules) }
-{
-    let part = parse_block(alloc, block)?;
-    judge.feed(&part, except)?;
-    Ok(())
 }
 
 // Judges the line that no byte 10 ended, where there is one.
@@ -236,6 +214,9 @@ fn judge_last(
 {
     match cutter.finish()? {
         None => Ok(()),
-        Some(block) => judge_block(alloc, judge, except, block.bytes()),
+        Some(block) => {
+            judge.feed_text(alloc, block.bytes(), except)?;
+            Ok(())
+        }
     }
 }

@@ -1,3 +1,4 @@
+mod AloneSteps
 pub mod AsFar
 pub mod Decided
 pub mod Decisive

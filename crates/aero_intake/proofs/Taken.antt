@@ -96,6 +96,12 @@ more_has_come before mid after bytes more have then = record {
   quiet = record { faults = then.quiet.faults ∙ have.quiet.faults; ends = then.quiet.ends ∙ have.quiet.ends };
 }
 
+-- a reading that has ended by itself wasn't stopped
+pub not_stopped : (before after : Sight) (limit count : ℕ) (ending : Ending) → Ends before after limit count ending → Some ending ≡ Some Stopped → ⊥
+not_stopped before after limit count ending ends same =
+    let is : ending ≡ Stopped = cc same in
+    subst (λ e. Ends before after limit count e) is ends
+
 -- what was read of a source that has ended
 pub source_was_read : (before mid after : Sight) (limit count : ℕ) (bytes : List ℕ) (ending : Ending) →
     HaveCome before mid bytes → count ≡ length bytes → Ends mid after limit count ending → WasRead before after limit bytes ending

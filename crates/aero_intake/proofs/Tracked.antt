@@ -24,6 +24,7 @@ use Rattle.aero_pieces.specs.Values.{IsValueOf}
 use Rattle.aero_verdict.specs.Finding.{IsFinding, IsTraceFinding}
 use Rattle.aero_model.specs.Terms.{Terms, asking, to_the_end}
 use Rattle.aero_intake.specs.Held.{Known, with_next, IsDecisive}
+use Rattle.aero_intake.specs.Intake.{Taking, IsTaken}
 use Rattle.aero_intake.specs.declared.track.Track.{Track}
 use Rattle.aero_intake.specs.declared.track.Track.TheVariants.{Arriving, Arrived, Checking, Found}
 use Rattle.aero_intake.specs.Stories.{Story, Asked, AreEnough, BeginAlike, own_chunk, own_check, chunks_asked, checks_asked, HasArrived, AreSettled}
@@ -32,7 +33,7 @@ use Rattle.aero_intake.specs.Tracks.{with_finding, with_value}
 use Rattle.aero_intake.proofs.AsFar.{found_as_far, found_to_the_end}
 use Rattle.aero_intake.proofs.Decisive.{more_decide}
 use Rattle.aero_intake.proofs.Judged.{judged_alike, same_finding}
-use Rattle.aero_intake.proofs.Taken.{concat-more}
+use Rattle.aero_intake.proofs.Taken.{concat-more, chunks_with_more}
 use Rattle.aero_intake.proofs.Values.{parsed_value, not_judged, not_ordered, not_explained, not_opened, not_parsed}
 
 -- what is asked of the sources
@@ -157,6 +158,13 @@ alike_dropped terms asked all more alike = record {
   decided = alike.decided;
 }
 
+-- what was asked about begins as the chunks of whatever could follow
+pub alike_with_more : (terms : Terms) (asked cut pieces : List (List ℕ)) (i : Taking) (more : List ℕ) → IsTaken i pieces cut → BeginAlike terms asked cut →
+    BeginAlike terms asked (blocks_from nothing_yet (pieces ++ more ∷ []))
+alike_with_more terms asked cut pieces i more taken alike =
+    let all = chunks_with_more i pieces cut more taken in
+    subst (λ bs. BeginAlike terms asked bs) all.1 (alike_dropped terms asked cut all.0 alike)
+
 -- those that were asked about decide
 pub begin_alike : (terms : Terms) (asked all : List (List ℕ)) → IsDecisive terms (map reading_of asked) → AreEnough terms asked all → BeginAlike terms asked all
 begin_alike terms asked all decided (inl same) = record {
@@ -170,7 +178,7 @@ begin_alike terms asked all decided (inl same) = record {
 begin_alike terms asked all decided (inr alike) = alike
 
 -- what is found of enough chunks is found of the text that the pieces are
-text_found : (terms : Terms) (asked pieces : List (List ℕ)) (f : Finding) → AreEnough terms asked (blocks_from nothing_yet pieces) →
+pub text_found : (terms : Terms) (asked pieces : List (List ℕ)) (f : Finding) → AreEnough terms asked (blocks_from nothing_yet pieces) →
     IsTraceFinding (map reading_of asked) terms f → IsTraceFinding (reading_of (concat pieces) ∷ []) terms f
 text_found terms asked pieces f enough found =
     let all = blocks_from nothing_yet pieces in

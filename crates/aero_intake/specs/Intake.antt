@@ -1,5 +1,5 @@
 -- A source that is being read and cut.
-use Rattle.std.specs.Prelude.{◌≡◌, Bool, true, false, ℕ, zero, suc, ◌+◌, ◌<◌, ◌≤◌, List, [], ◌∷◌, ◌++◌, length, take, option_to_list, Result, Ok, Err}
+use Rattle.std.specs.Prelude.{◌≡◌, Bool, true, false, ℕ, zero, suc, ◌+◌, ◌<◌, ◌≤◌, List, [], ◌∷◌, ◌++◌, length, take, option_to_list, Option, Some, None, Result, Ok, Err}
 use Rattle.std.specs.List.{concat}
 use Rattle.std.specs.Io.KnownBytes.{Consumes}
 use Rattle.aero_model.specs.declared.verdict.Ending.{Ending}
@@ -54,6 +54,11 @@ pub record HaveCome (before after : Sight) (bytes : List ℕ) : Type 0 where
   pub came : Consumes before.bytes after.bytes bytes
   pub trail : Trails before.trail after.trail bytes
   pub quiet : IsQuiet before after
+
+-- These bytes have come from a reader, and its reading has ended so, if it has.
+abbrev pub HasCome : (before after : Sight) (limit : ℕ) (bytes : List ℕ) → Option Ending → Type 0
+HasCome before after limit bytes None = HaveCome before after bytes
+HasCome before after limit bytes (Some ending) = WasRead before after limit bytes ending
 
 -- One read gave this piece, of at least one byte, and of no more than it may ask for or than the limit and one byte.
 pub record Comes (before after : Sight) (most limit count : ℕ) (piece : List ℕ) : Type 0 where

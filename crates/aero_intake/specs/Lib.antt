@@ -2,6 +2,7 @@
 -- over), Plans and PlanTerms (what a plan may say, and its terms) and Laws. Also Held and Lives (on what terms a source
 -- is judged, what is kept of it, or judged as it comes, and when that decides) and Tracks (how far it is).
 -- For proofs alone: Stories (what a run knows of a source meanwhile), which proofs of aero_batch use.
+pub mod Alone
 pub mod Held
 pub mod Intake
 pub mod Laws

@@ -6,6 +6,7 @@
 //! read that failed, or by one byte more than the limit allows.
 //! A `Track` keeps what its chunks say as they are read, until it is found what is to be said of it.
 //! Who reads the chunks, and in what order, is for the crates above.
+//! `judge_source` does all for one source by one thread: it reads, cuts and judges in a plain loop, and keeps one chunk.
 //!
 //! `laws` says that the chunks of a source have the verdict of its text, however its bytes came.
 //!
@@ -25,9 +26,7 @@
 //!   was is kept: `pass_over`, `has_passed`. After the last chunk another source may be read, of which nothing has
 //!   come: `finish`, `fresh`.
 //! - A `Live` has exactly the parts that came, in order, on the terms that it began with: `Live::new`, `feed`, `parts`,
-//!   `terms`; `len`. `finish` gives what is found of exactly them, on these terms. So does its `Judge`: `new`, `feed`,
-//!   `feed_rest`, `finish`. After a `feed` that is done either a verdict is certain, or nothing is wrong yet, but for one
-//!   line too many at most: `Judge::feed`, `going_on`; `is_certain`, `told`, `certain`.
+//!   `terms`; `len`. `finish` gives what is found of exactly them, on these terms.
 //! - With each chunk that comes a `Live` judges two: one waits less than before, if one did: `Live::new`, `feed`, `waiting`.
 //!   After `catch_up` none waits.
 //! - Kept or judged as they came, the parts of a source are those that its chunks gave, on the terms that it began
@@ -39,10 +38,13 @@
 //!   after them. It is told exactly after a malformed line, after a line too many, and where the source is live and
 //!   the verdict of its `Live` is certain: `Knowledge::decide`, `told`, `faulty`, `decisive`; `is_decided`, `told`;
 //!   `Live::is_certain`.
+//! - What one thread finds of a source is the finding on the bytes that came from its reader, and they ended so:
+//!   `alone::judge_source`, `found`.
 //! - However its bytes came, the chunks of a source have the verdicts, orders and events of telling cycles of its text.
 //!   After a malformed line, or one too many, later chunks don't count: `laws`.
 #![tactic(auto)]
 
+pub mod alone;
 pub mod held;
 pub mod intake;
 pub mod laws;

@@ -17,7 +17,7 @@ use std::mem;
 /// two are judged, the first ones first, and let go: so no chunk holds the others up for long.
 #[derive(Drop)]
 pub struct Live {
-    judge: Box<Judge, Global>,
+    judge: Judge,
     // The chunks that came and aren't judged yet.
     waiting: VecDeque<Parsed>,
     count: u64,
@@ -32,13 +32,13 @@ impl Model for Live {
     ghost use Rattle.std.specs.Prelude.{◌≡◌, ◌++◌, length};
 
     ghost view = { λ l. record {
-      parts = (judging_of l.judge.value).parts ++ l.waiting.items;
+      parts = (judging_of l.judge).parts ++ l.waiting.items;
       waiting = length l.waiting.items;
-      terms = (judging_of l.judge.value).terms;
-      certain = (judging_of l.judge.value).certain;
+      terms = (judging_of l.judge).terms;
+      certain = (judging_of l.judge).certain;
     } };
 
-    ghost invariant = { λ l. l.count ≡ length ((judging_of l.judge.value).parts ++ l.waiting.items) };
+    ghost invariant = { λ l. l.count ≡ length ((judging_of l.judge).parts ++ l.waiting.items) };
 }
 
 impl Live {
@@ -50,7 +50,7 @@ impl Live {
     {
         let count = kept.len() as u64;
         Ok(Live {
-            judge: Box::new(alloc, Judge::new(alloc, terms))?,
+            judge: Judge::new(alloc, terms)?,
             waiting: VecDeque::from_vec(kept),
             count,
         })
@@ -105,11 +105,10 @@ impl Live {
         ensures { IfOk result (IsTraceFinding self.parts self.terms) }
     {
         let Live {
-            judge,
+            mut judge,
             waiting,
             count: _,
         } = self;
-        let mut judge = Box::into_inner(judge);
         judge_rest(&mut judge, waiting, except);
         judge.finish()
     }

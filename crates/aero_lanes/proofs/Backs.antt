@@ -5,11 +5,11 @@ use Rattle.std.proofs.lemmas.List.{append-nil, length-map, length_push}
 use Rattle.std.proofs.lemmas.Option.{slice_get-map, slice_get_within}
 use Rattle.aero_model.specs.CallCounts.{Seen}
 use Rattle.aero_report.specs.declared.form.Form.{Form}
-use Rattle.aero_batch.specs.declared.outcome.Cause.{Cause}
-use Rattle.aero_batch.specs.declared.outcome.Cause.TheVariants.{Memory, Write}
-use Rattle.aero_batch.specs.declared.told.Told.{Told}
-use Rattle.aero_batch.specs.Founds.{Found, IsFoundAt, IsWritten, Took, WasTold, lines_of_all, no_text, sighted, whose}
-use Rattle.aero_batch.proofs.Stands.{slice_get_some, the_some}
+use Rattle.aero_telling.specs.declared.cause.Cause.{Cause}
+use Rattle.aero_telling.specs.declared.cause.Cause.TheVariants.{Memory, Write}
+use Rattle.aero_telling.specs.declared.told.Told.{Told}
+use Rattle.aero_telling.specs.Founds.{Found, IsFoundAt, IsWritten, Took, WasTold, lines_of_all, no_text, sighted, whose}
+use Rattle.aero_telling.proofs.Tellings.{slice_get_some, the_some}
 use Rattle.aero_intake.specs.Source.{Sight}
 use Rattle.aero_intake.specs.declared.source.SourceOf.{SourceOf}
 use Rattle.aero_lanes.specs.declared.seat.Seat.{Seat}

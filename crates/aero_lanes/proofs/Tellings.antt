@@ -10,14 +10,14 @@ use Rattle.aero_model.specs.CallCounts.{Seen}
 use Rattle.aero_model.specs.Verdicts.{counted, total}
 use Rattle.aero_report.specs.declared.form.Form.{Form}
 use Rattle.aero_report.specs.Forms.{source_line_in}
-use Rattle.aero_batch.specs.declared.outcome.Cause.{Cause}
-use Rattle.aero_batch.specs.declared.outcome.Cause.TheVariants.{Memory, Write}
-use Rattle.aero_batch.specs.declared.told.Told.{Told}
-use Rattle.aero_batch.specs.Alone.{TellsOf}
-use Rattle.aero_batch.specs.Notables.{notable_of}
-use Rattle.aero_batch.specs.Founds.{Sighted, Found, IsFoundOf, Took, sighted, ending_of, notable, lines_of_all}
-use Rattle.aero_batch.specs.Telling.{WasCut, TellsFound, IsOneMore}
-use Rattle.aero_batch.proofs.Stands.{get_push, lines_more, counts_more, took_more, took_nothing, slice_get_some, the_some}
+use Rattle.aero_telling.specs.declared.cause.Cause.{Cause}
+use Rattle.aero_telling.specs.declared.cause.Cause.TheVariants.{Memory, Write}
+use Rattle.aero_telling.specs.declared.told.Told.{Told}
+use Rattle.aero_intake.specs.Alone.{IsFoundIn}
+use Rattle.aero_telling.specs.Notables.{notable_of}
+use Rattle.aero_telling.specs.Founds.{Found, Took, ending_of, notable, lines_of_all}
+use Rattle.aero_telling.specs.Telling.{WasCut, TellsFound, IsOneMore}
+use Rattle.aero_telling.proofs.Tellings.{get_push, lines_more, counts_more, took_more, took_nothing, slice_get_some}
 use Rattle.aero_intake.specs.Source.{Sight}
 use Rattle.aero_intake.specs.declared.source.SourceOf.{SourceOf}
 use Rattle.aero_lanes.specs.declared.lane.Ended.{Ended}
@@ -81,20 +81,13 @@ found_next {R} known terms origin all place end j seated at found_is =
     let first = slice_get_some origin place (omega (arith, within, seated.count)) in
     let before = first.0 in
     let fits : IsEndOf known terms before end = seated.fits place before (seats.Done end) first.1 at in
-    let tells = subst (λ (o : Option model.Found). IfSome o (λ x. TellsOf terms (sighted known before ∷ []) (sighted known end.source ∷ []) 0 x))
-    found_is fits.found in
-    let f = tells.0 in
-    let is = tells.1 in
-    let same_before : sighted known before ≡ is.before = the_some (sighted known before) is.before is.was in
-    let same_after : sighted known end.source ≡ is.after = the_some (sighted known end.source) is.after is.is in
-    let found_of : IsFoundOf terms (sighted known before) (sighted known end.source) f =
-    subst (λ (b : Sighted). IsFoundOf terms b (sighted known end.source) f) (sym same_before)
-    (subst (λ (x : Sighted). IsFoundOf terms is.before x f) (sym same_after) is.found_of) in (
-      f,
-      record { before = before; end = end; was = first.1; is = at; found_of = found_of },
-      tells.2,
-      tells.3,
-      found_of.name ∙ sym (ap (λ w. w.0) fits.whose_is),
+    let is : IsFoundIn terms (known before.reader) (known end.source.reader) j =
+    subst (λ (o : Option model.Found). IfSome o (λ x. IsFoundIn terms (known before.reader) (known end.source.reader) x)) found_is fits.found in (
+      record { name = before.name.items; bytes = is.bytes; ending = j.ending; finding = j.finding },
+      record { before = before; end = end; was = first.1; is = at; found_of = record { name = refl; read = is.read; finding = is.finding } },
+      ap (λ n. (n, j.ending)) (sym is.count),
+      refl,
+      sym (ap (λ w. w.0) fits.whose_is),
     )
 
 module _ {R : Type 0} (known : R → Sight) (terms : Terms) (form : Form) (all : List (Seat R)) (mid after : Seen) (a b : Told) where

@@ -1,12 +1,12 @@
 -- What the lanes come to.
-use Rattle.std.specs.Prelude.{◌≡◌, ℕ, ◌≤◌, List, [], map, vec_len, vec_capacity, Option}
+use Rattle.std.specs.Prelude.{◌≡◌, ◌≤◌, List, [], map, vec_len, vec_capacity}
 use Rattle.aero_model.specs.CallCounts.{Seen}
 use Rattle.aero_report.specs.declared.form.Form.{Form}
-use Rattle.aero_batch.specs.Founds.{WasTold, sighted}
+use Rattle.aero_telling.specs.Founds.{WasTold, sighted}
 use Rattle.aero_intake.specs.Source.{Sight}
 use Rattle.aero_intake.specs.declared.source.SourceOf.{SourceOf}
 use Rattle.aero_lanes.specs.declared.room.Room.{Room}
-use Rattle.aero_lanes.specs.declared.run.Report.{Report}
+use Rattle.aero_telling.specs.declared.told.Report.{Report}
 use Rattle.aero_lanes.specs.declared.seat.Seat.{Seat}
 use Rattle.aero_lanes.specs.Seats.{AreSeated}
 use Rattle.aero_lanes.specs.Tellings.{IsBegunSo}

@@ -1,4 +1,4 @@
--- To be believed: nothing but what aero_batch has (Founds).
+-- To be believed: nothing but what aero_telling has (Founds).
 -- For proofs alone: Ends, Seats and Tellings, which only private functions cite.
 pub mod Ends
 pub mod Judged

@@ -1,6 +1,6 @@
 -- Where a source is.
 use Rattle.std.specs.Prelude.{◌≡◌, ℕ, ◌<◌, List, ◌++◌, map, length, slice_get, Option, Some, None}
-use Rattle.aero_batch.specs.Founds.{Found, IsFoundOf, sighted, whose}
+use Rattle.aero_telling.specs.Founds.{Found, IsFoundOf, sighted, whose}
 use Rattle.aero_intake.specs.Source.{Sight}
 use Rattle.aero_intake.specs.PlanTerms.{terms_of}
 use Rattle.aero_intake.specs.declared.source.SourceOf.{SourceOf}

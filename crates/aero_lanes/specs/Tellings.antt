@@ -7,11 +7,11 @@ use Rattle.aero_model.specs.CallCounts.{Seen}
 use Rattle.aero_report.specs.declared.form.Form.{Form}
 use Rattle.aero_model.specs.Verdicts.{no_counts, total}
 use Rattle.aero_report.specs.Forms.{source_line_in}
-use Rattle.aero_batch.specs.declared.outcome.Cause.{Cause}
-use Rattle.aero_batch.specs.declared.outcome.Cause.TheVariants.{Memory, Write}
-use Rattle.aero_batch.specs.declared.told.Told.{Told}
-use Rattle.aero_batch.specs.Founds.{Found, Took, ending_of, notable, lines_of_all, counts_of_all}
-use Rattle.aero_batch.specs.Telling.{TellsFound}
+use Rattle.aero_telling.specs.declared.cause.Cause.{Cause}
+use Rattle.aero_telling.specs.declared.cause.Cause.TheVariants.{Memory, Write}
+use Rattle.aero_telling.specs.declared.told.Told.{Told}
+use Rattle.aero_telling.specs.Founds.{Found, Took, ending_of, notable, lines_of_all, counts_of_all}
+use Rattle.aero_telling.specs.Telling.{TellsFound}
 use Rattle.aero_intake.specs.Source.{Sight}
 use Rattle.aero_intake.specs.declared.source.SourceOf.{SourceOf}
 use Rattle.aero_lanes.specs.declared.seat.Seat.{Seat}

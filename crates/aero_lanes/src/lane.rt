@@ -4,9 +4,7 @@ ghost use Rattle.aero_intake.specs.PlanTerms.{terms_of};
 ghost use Rattle.aero_lanes.specs.Ends.{IsEndOf};
 
 use crate::shared::Shared;
-use aero_batch::find::find;
-use aero_batch::helpers::Nobody;
-use aero_batch::setting::Setting;
+use aero_intake::alone::judge_source;
 use aero_intake::{Followed, Plan, SourceOf};
 use aero_model::Found;
 use std::snapshot::Snapshot;
@@ -36,42 +34,23 @@ impl<R: Followed> Promise<Ended<R>> for Finds<R> {
 // Reads and judges a source, and then sends its place: the lane has ended.
 pub(crate) fn work<R: Followed + Drop, T: Wait + Copy>(
     shared: Shared<'_, T>,
-    source: SourceOf<R>,
+    mut source: SourceOf<R>,
     place: u64,
 ) -> Ended<R>
     ensures { IsEndOf R.sight (terms_of shared.entry.plan.now) source result }
 {
-    let ended = find_alone(shared, source);
+    let found = judge_source(
+        shared.rt,
+        shared.alloc,
+        &mut source.reader,
+        shared.plan,
+        shared.is_given_up,
+    );
     send_end(shared, place);
-    ended
+    Ended { source, found }
 }
 
 // Nobody listens any more where the calling thread has given up.
 fn send_end<T: Wait + Copy>(shared: Shared<'_, T>, place: u64) {
     let _ = shared.ends.send(shared.rt, place);
-}
-
-fn find_alone<R: Followed + Drop, T: Wait + Copy>(
-    shared: Shared<'_, T>,
-    source: SourceOf<R>,
-) -> Ended<R>
-    ensures { IsEndOf R.sight (terms_of shared.entry.plan.now) source result }
-{
-    let Ok(mut one) = Vec::with_capacity(shared.alloc, 1) else {
-        return Ended {
-            source,
-            found: None,
-        };
-    };
-    one.push_reserved(source);
-    let setting = Setting {
-        rt: shared.rt,
-        alloc: shared.alloc,
-        plan: shared.plan,
-    };
-    let found = find(&setting, &mut one, &mut Nobody, shared.is_given_up);
-    let Some(source) = one.pop() else {
-        unreachable!()
-    };
-    Ended { source, found }
 }

@@ -5,8 +5,8 @@ ghost use Rattle.aero_lanes.specs.Tellings.{IsBegunSo};
 ghost use Rattle.aero_model.specs.Terms.{Terms};
 
 use crate::seat::{Seat, source_of};
-use aero_batch::told::Told;
 use aero_intake::{Followed, SourceOf};
+use aero_telling::told::Told;
 use crossbeam_channel::{Receiver, Sender};
 use std::alloc::{AllocError, Global};
 use std::thread::Threads;

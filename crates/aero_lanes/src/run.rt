@@ -1,7 +1,7 @@
 //! The run in lanes.
 ghost use Rattle.std.specs.Prelude.{◌≡◌, ◌≤◌, [], map, vec_len, Some};
-ghost use Rattle.aero_batch.specs.Founds.{sighted, WasTold};
-ghost use Rattle.aero_batch.specs.Telling.{cause_of};
+ghost use Rattle.aero_telling.specs.Founds.{sighted, WasTold};
+ghost use Rattle.aero_telling.specs.Telling.{cause_of};
 ghost use Rattle.aero_intake.specs.PlanTerms.{terms_of};
 ghost use Rattle.aero_lanes.specs.Judged.{HasJudged, IsReady};
 ghost use Rattle.aero_model.specs.CallCounts.{seen_by};
@@ -11,31 +11,19 @@ use crate::lanes::Lanes;
 use crate::room::{Room, all_back, room_for, seat_all};
 use crate::shared::Shared;
 use crate::steps::tell_all;
-use aero_batch::setting::Setting;
-use aero_batch::told::Told;
-use aero_batch::{Cause, Outcome, run_lines};
 use aero_intake::{Followed, Plan, SourceOf};
-use aero_model::{Counting, Counts};
-use aero_worker::NoGate;
+use aero_model::Counting;
+use aero_telling::{Cause, Report};
 use std::alloc::Global;
 use std::io::Write;
+use std::sync::Wait;
 use std::sync::atomic::{AtomicBool, Ordering};
-use std::sync::{Arc, Wait};
 use std::thread;
 use std::thread::{Scope, Threads};
 
-/// What was found of the sources whose lines were written whole, which are the first ones, and why the run stopped.
-#[derive(Drop)]
-pub struct Report {
-    /// What was told of these sources: 65,536 at most.
-    pub told: Told,
-    /// Why not all lines were written, if so.
-    pub cause: Option<Cause>,
-}
-
 /// Reads and judges the sources, as many at once as the plan has workers, each in a lane of its own, and writes the line of
 /// each source, in their order. No summary is written. The lines are those of `aero_batch::run_lines`, and so is all that is
-/// said there of how sources end. With one source, or one worker, it is that run.
+/// said there of how sources end. With one worker one lane runs at a time.
 ///
 /// A lane is a thread. Where the system gives none, the calling thread does a lane's work. A source that may wait is begun
 /// once all before it are told. All lanes have ended when the call returns, and it gives all sources back, in their order.
@@ -59,11 +47,8 @@ pub fn run_in_lanes<
         (seen_by W.contents writer.old) (seen_by W.contents writer.new) result.0.told.endings.items
         result.0.told.notables.items result.0.told.counts result.0.cause }
 {
-    if sources.len() < 2 || plan.workers < 2 {
-        return run_in_turn(rt, alloc, sources, writer, plan);
-    }
     let Ok((mut room, ends)) = room_for(alloc, sources.len()) else {
-        return (refused(alloc), sources);
+        return (Report::refused(alloc), sources);
     };
     seat_all(&mut room.seats, sources);
     let is_given_up = AtomicBool::new(false);
@@ -75,62 +60,6 @@ pub fn run_in_lanes<
         ends: &ends,
     };
     judge_all(shared, room, writer)
-}
-
-/// The same by `aero_batch::run_lines`, which reads the sources one after the other, and whose workers serve the one that is read.
-/// For one source, and for small ones, it is faster.
-pub fn run_in_turn<R: Followed, W: Write, T: Threads + Wait + Copy + Send + 'static>(
-    rt: T,
-    alloc: Global,
-    mut sources: Vec<SourceOf<R>>,
-    writer: &mut Counting<W>,
-    plan: &Plan,
-) -> (Report, Vec<SourceOf<R>>)
-    requires { vec_len sources ≤ 65536 }
-    ensures told { WasTold (terms_of plan.now) plan.now.form (map (sighted R.sight) sources.items)
-        (map (sighted R.sight) result.1.items)
-        (seen_by W.contents writer.old) (seen_by W.contents writer.new) result.0.told.endings.items
-        result.0.told.notables.items result.0.told.counts result.0.cause }
-{
-    let Ok(gate) = Arc::new(alloc, NoGate) else {
-        return (refused(alloc), sources);
-    };
-    let setting = Setting {
-        rt: &rt,
-        alloc,
-        plan,
-    };
-    let Outcome {
-        endings,
-        notables,
-        counts,
-        cause,
-        ..
-    } = run_lines(&setting, &mut sources, writer, gate);
-    let told = Told {
-        endings,
-        notables,
-        counts,
-    };
-    (Report { told, cause }, sources)
-}
-
-// Where memory was refused before any source was read.
-fn refused(alloc: Global) -> Report
-    ensures endings { result.told.endings.items ≡ [] }
-    ensures notables { result.told.notables.items ≡ [] }
-    ensures counts { result.told.counts ≡ no_counts }
-    ensures cause { result.cause ≡ Some Cause.Memory }
-{
-    let told = Told {
-        endings: Vec::new(alloc),
-        notables: Vec::new(alloc),
-        counts: Counts::none(),
-    };
-    Report {
-        told,
-        cause: Some(Cause::Memory),
-    }
 }
 
 // Starts the lanes, tells what they find, and waits until all have ended. The writer goes into the scope's closure, and

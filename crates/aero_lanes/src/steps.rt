@@ -1,6 +1,6 @@
 //! The steps of the calling thread.
 ghost use Rattle.std.specs.Prelude.{◌≡◌, true, vec_len, Some, IfOk, IfErr, OnOk};
-ghost use Rattle.aero_batch.specs.Telling.{cause_of};
+ghost use Rattle.aero_telling.specs.Telling.{cause_of};
 ghost use Rattle.aero_intake.specs.PlanTerms.{terms_of};
 ghost use Rattle.aero_lanes.specs.Tellings.{HasNumbersOf, StandsSo, StopsSo};
 ghost use Rattle.aero_model.specs.CallCounts.{Seen, seen_by};
@@ -8,10 +8,10 @@ ghost use Rattle.aero_model.specs.CallCounts.{Seen, seen_by};
 use crate::lanes::{Lanes, move_on};
 use crate::shared::Shared;
 use crate::tell::tell_ready;
-use aero_batch::Cause;
-use aero_batch::told::Told;
 use aero_intake::Followed;
 use aero_model::Counting;
+use aero_telling::Cause;
+use aero_telling::told::Told;
 use std::io::Write;
 use std::sync::Wait;
 use std::thread::{Scope, Threads};

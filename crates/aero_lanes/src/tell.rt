@@ -1,6 +1,6 @@
 //! Telling what the lanes found.
 ghost use Rattle.std.specs.Prelude.{◌≡◌, true, false, length, slice_get, vec_len, Some, IfOk, IfErr, OnOk};
-ghost use Rattle.aero_batch.specs.Telling.{HasRoom};
+ghost use Rattle.aero_telling.specs.Telling.{HasRoom};
 ghost use Rattle.aero_intake.specs.PlanTerms.{terms_of};
 ghost use Rattle.aero_lanes.specs.Tellings.{HasNumbersOf, StandsSo, StopsSo, TellsEnd, TellsSeat, TellsNextSeat};
 ghost use Rattle.aero_model.specs.CallCounts.{Seen, seen_by};
@@ -8,10 +8,10 @@ ghost use Rattle.aero_model.specs.CallCounts.{Seen, seen_by};
 use crate::lanes::Lanes;
 use crate::seat::Seat;
 use crate::shared::Shared;
-use aero_batch::Cause;
-use aero_batch::told::{Style, Told, tell_found};
 use aero_intake::Followed;
 use aero_model::{Counting, Found};
+use aero_telling::Cause;
+use aero_telling::told::{Style, Told, tell_found};
 use std::io::Write;
 
 // How the texts of the run are made.

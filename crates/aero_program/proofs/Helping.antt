@@ -3,7 +3,7 @@ use Rattle.std.proofs.Common.{◌≡◌, ℕ, List, Option, true, false, Result,
 use Rattle.std.specs.Prelude.{OnErr, OnOk}
 use Rattle.std.specs.declared.io.ErrorKind.{ErrorKind}
 use Rattle.aero_model.specs.CallCounts.{Seen}
-use Rattle.aero_batch.specs.Founds.{Took}
+use Rattle.aero_telling.specs.Founds.{Took}
 use Rattle.aero_program.specs.Executed.{EndsAs, Fails, Helps}
 use Rattle.aero_program.specs.Failure.{cut_failure}
 use Rattle.aero_program.specs.Status.{end_of_help}

@@ -7,11 +7,11 @@ use Rattle.aero_model.specs.declared.verdict.Ending.{Ending}
 use Rattle.aero_model.specs.CallCounts.{Seen}
 use Rattle.aero_model.specs.Exempt.{Listed}
 use Rattle.aero_model.specs.Terms.{Terms}
-use Rattle.aero_batch.specs.declared.outcome.Cause.{Cause}
-use Rattle.aero_batch.specs.declared.outcome.Notable.{Notable}
+use Rattle.aero_telling.specs.declared.cause.Cause.{Cause}
+use Rattle.aero_telling.specs.declared.notable.Notable.{Notable}
 use Rattle.aero_report.specs.declared.form.Form.{Form}
 use Rattle.aero_report.specs.Forms.{summary_line_in}
-use Rattle.aero_batch.specs.Founds.{Sighted, sighted, whose, WasRunTo}
+use Rattle.aero_telling.specs.Founds.{Sighted, sighted, whose, WasRunTo}
 use Rattle.aero_intake.specs.Source.{Sight}
 use Rattle.aero_intake.specs.declared.source.SourceOf.{SourceOf}
 use Rattle.aero_program.specs.declared.command.Config.{Config}

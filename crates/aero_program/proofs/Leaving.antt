@@ -4,7 +4,7 @@ use Rattle.std.specs.Prelude.{IsSome, is_some, option_map, slice_get, true}
 use Rattle.std.proofs.Math.Logic.{∥∥₁_elim}
 use Rattle.std.proofs.lemmas.Grind.{merely}
 use Rattle.std.proofs.lemmas.List.{length-map}
-use Rattle.aero_batch.specs.Founds.{Sighted, whose}
+use Rattle.aero_telling.specs.Founds.{Sighted, whose}
 use Rattle.aero_intake.specs.Source.{Origin, Stream, origin_in}
 use Rattle.aero_model.specs.CallCounts.{Seen}
 use Rattle.aero_program.specs.declared.command.Sources.{Sources}

@@ -2,9 +2,9 @@
 use Rattle.std.proofs.Common.{◌≡◌, ℕ, List, Option, IfSome, subst, sym}
 use Rattle.aero_model.specs.declared.verdict.LineFault.{LineFault}
 use Rattle.aero_model.specs.declared.verdict.ShapeFault.{ShapeFault}
-use Rattle.aero_batch.specs.declared.outcome.Fault.TheVariants.{IllFormed, Malformed}
-use Rattle.aero_batch.specs.declared.outcome.Fault.{Fault}
-use Rattle.aero_batch.specs.declared.outcome.FaultyLine.{FaultyLine}
+use Rattle.aero_telling.specs.declared.notable.Fault.TheVariants.{IllFormed, Malformed}
+use Rattle.aero_telling.specs.declared.notable.Fault.{Fault}
+use Rattle.aero_telling.specs.declared.notable.FaultyLine.{FaultyLine}
 use Rattle.aero_faults.specs.declared.look.Look.{Look}
 use Rattle.aero_faults.specs.declared.look.Look.TheVariants.{Nothing, Line, Event}
 use Rattle.aero_faults.specs.Looks.{IsEventLook, IsLine, IsLineLook}

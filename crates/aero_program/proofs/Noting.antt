@@ -9,8 +9,8 @@ use Rattle.std.proofs.lemmas.Option.{slice_get_past, slice_get_read}
 use Rattle.std.proofs.lemmas.List.{append-nil, map-append}
 use Rattle.std.proofs.lemmas.Grind.{flat_map-append}
 use Rattle.aero_model.specs.declared.verdict.Ending.{Ending}
-use Rattle.aero_batch.specs.declared.outcome.FaultyLine.{FaultyLine}
-use Rattle.aero_batch.specs.declared.outcome.Notable.{Notable}
+use Rattle.aero_telling.specs.declared.notable.FaultyLine.{FaultyLine}
+use Rattle.aero_telling.specs.declared.notable.Notable.{Notable}
 use Rattle.aero_intake.specs.declared.source.SourceOf.{SourceOf}
 use Rattle.aero_report.specs.Options.{Note}
 use Rattle.aero_program.specs.declared.input.Input.{Input}

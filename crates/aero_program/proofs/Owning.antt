@@ -3,8 +3,8 @@ use Rattle.std.proofs.Common.{◌≡◌, ℕ, zero, suc, Bool, List, [], ◌∷�
 use Rattle.std.proofs.Math.Logic.{∥∥₁_elim}
 use Rattle.std.proofs.lemmas.Grind.{merely}
 use Rattle.aero_model.specs.declared.verdict.Ending.{Ending}
-use Rattle.aero_batch.specs.declared.outcome.Notable.{Notable}
-use Rattle.aero_batch.specs.Founds.{Sighted, sighted}
+use Rattle.aero_telling.specs.declared.notable.Notable.{Notable}
+use Rattle.aero_telling.specs.Founds.{Sighted, sighted}
 use Rattle.aero_intake.specs.Source.{Sight}
 use Rattle.aero_intake.specs.declared.source.SourceOf.{SourceOf}
 use Rattle.aero_program.specs.declared.input.Input.{Input}

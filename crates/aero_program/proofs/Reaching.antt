@@ -7,7 +7,7 @@ use Rattle.std.specs.Prelude.{◌⊎◌}
 use Rattle.std.specs.Io.KnownBytes.{Consumes}
 use Rattle.aero_model.specs.declared.verdict.Ending.{Ending}
 use Rattle.aero_model.specs.declared.verdict.Ending.TheVariants.{Whole, Broken, TooLarge, Stopped}
-use Rattle.aero_batch.specs.Founds.{Found}
+use Rattle.aero_telling.specs.Founds.{Found}
 use Rattle.aero_intake.specs.Source.{FitsLimit, NothingIsLeft, Origin, File, Sight, Trail, Trails, WasRead, is_broken}
 use Rattle.aero_verdict.specs.Finding.{IsCertainFinding, IsFinding}
 use Rattle.aero_model.specs.Terms.{Terms}

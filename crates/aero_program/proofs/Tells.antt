@@ -5,7 +5,7 @@ use Rattle.std.proofs.KnownBytes.{Appends-trans}
 use Rattle.std.proofs.lemmas.List.{take-append-le}
 use Rattle.std.proofs.Math.Seq.{take-append-add}
 use Rattle.aero_model.specs.CallCounts.{Seen}
-use Rattle.aero_batch.specs.Founds.{Took}
+use Rattle.aero_telling.specs.Founds.{Took}
 use Rattle.aero_program.specs.declared.failure.Failure.{Failure}
 use Rattle.aero_program.specs.declared.failure.Failure.TheVariants as failure
 use Rattle.aero_program.specs.Executed.{Ends, Fails}

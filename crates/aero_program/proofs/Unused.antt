@@ -4,10 +4,10 @@ use Rattle.std.proofs.KnownBytes.{Appends-nil}
 use Rattle.std.specs.Prelude.{IfOk, IfSome, IsSome}
 use Rattle.aero_model.specs.declared.verdict.Ending.{Ending}
 use Rattle.aero_model.specs.CallCounts.{Seen}
-use Rattle.aero_batch.specs.declared.outcome.Cause.{Cause}
-use Rattle.aero_batch.specs.declared.outcome.Notable.{Notable}
-use Rattle.aero_batch.specs.Founds.{Took}
-use Rattle.aero_batch.specs.Telling.{SumsUp}
+use Rattle.aero_telling.specs.declared.cause.Cause.{Cause}
+use Rattle.aero_telling.specs.declared.notable.Notable.{Notable}
+use Rattle.aero_telling.specs.Founds.{Took}
+use Rattle.aero_telling.specs.Telling.{SumsUp}
 use Rattle.aero_intake.specs.declared.source.SourceOf.{SourceOf}
 use Rattle.aero_report.specs.Options.{Note}
 use Rattle.aero_program.specs.declared.input.Input.{Input}

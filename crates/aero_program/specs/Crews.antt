@@ -8,18 +8,5 @@ workers_on None asked = asked
 workers_on (Some processors) asked = min asked (max processors 1)
 
 -- both ask for the same, but perhaps not for as many workers
-pub record AskAlike (one other : Config) : Type 0 where
-  pub piece : one.piece ≡ other.piece
-  pub files : one.files ≡ other.files
-  pub except : one.except ≡ other.except
-  pub only : one.only ≡ other.only
-  pub except_from : one.except_from ≡ other.except_from
-  pub only_from : one.only_from ≡ other.only_from
-  pub stop : one.stop ≡ other.stop
-  pub order : one.order ≡ other.order
-  pub explain : one.explain ≡ other.explain
-  pub long : one.long ≡ other.long
-  pub fail_open : one.fail_open ≡ other.fail_open
-  pub form : one.form ≡ other.form
-  pub terminals : one.terminals ≡ other.terminals
-  pub progress : one.progress ≡ other.progress
+abbrev pub AskAlike : Config → Config → Type 0
+AskAlike one other = one ≡ record other { workers = one.workers; some_workers = one.some_workers; most_workers = one.most_workers }

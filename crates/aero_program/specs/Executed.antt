@@ -11,9 +11,9 @@ use Rattle.aero_intake.specs.Source.{Origin, Sight, Stream, origin_in}
 use Rattle.aero_report.specs.Forms.{summary_line_in}
 use Rattle.aero_report.specs.Options.{Note, Options}
 use Rattle.aero_model.specs.Terms.{Terms, asking}
-use Rattle.aero_batch.specs.declared.outcome.Cause.{Cause}
-use Rattle.aero_batch.specs.declared.outcome.Notable.{Notable}
-use Rattle.aero_batch.specs.Founds.{Sighted, Took, WasRunTo}
+use Rattle.aero_telling.specs.declared.cause.Cause.{Cause}
+use Rattle.aero_telling.specs.declared.notable.Notable.{Notable}
+use Rattle.aero_telling.specs.Founds.{Sighted, Took, WasRunTo}
 use Rattle.aero_program.specs.declared.arguments.Unread.{Unread}
 use Rattle.aero_program.specs.declared.arguments.Unread.TheVariants as unread
 use Rattle.aero_program.specs.declared.command.Config.{Config}

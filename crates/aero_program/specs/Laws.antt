@@ -7,9 +7,9 @@ use Rattle.aero_model.specs.CallCounts.{Seen}
 use Rattle.aero_report.specs.declared.form.Form.{Form}
 use Rattle.aero_verdict.specs.Finding.{IsFinding}
 use Rattle.aero_model.specs.Terms.{Terms}
-use Rattle.aero_batch.specs.declared.outcome.Cause.{Cause}
-use Rattle.aero_batch.specs.declared.outcome.Notable.{Notable}
-use Rattle.aero_batch.specs.Founds.{Found, Sighted, WasRunTo}
+use Rattle.aero_telling.specs.declared.cause.Cause.{Cause}
+use Rattle.aero_telling.specs.declared.notable.Notable.{Notable}
+use Rattle.aero_telling.specs.Founds.{Found, Sighted, WasRunTo}
 use Rattle.aero_intake.specs.Source.{Sight}
 use Rattle.aero_program.specs.declared.command.Config.{Config}
 use Rattle.aero_program.specs.declared.stamp.Stamp.{Stamp}

@@ -1,8 +1,8 @@
 -- What a second look at the faulty line of a source shows.
 use Rattle.std.specs.Prelude.{ℕ, List, ⊤, Option, None, Some}
-use Rattle.aero_batch.specs.declared.outcome.Fault.{Fault}
-use Rattle.aero_batch.specs.declared.outcome.Fault.TheVariants.{Malformed, IllFormed}
-use Rattle.aero_batch.specs.declared.outcome.FaultyLine.{FaultyLine}
+use Rattle.aero_telling.specs.declared.notable.Fault.{Fault}
+use Rattle.aero_telling.specs.declared.notable.Fault.TheVariants.{Malformed, IllFormed}
+use Rattle.aero_telling.specs.declared.notable.FaultyLine.{FaultyLine}
 use Rattle.aero_faults.specs.declared.look.Look.{Look}
 use Rattle.aero_faults.specs.declared.look.Look.TheVariants.{Nothing, Line, Event}
 use Rattle.aero_faults.specs.Looks.{IsEventLook, IsLine, IsLineLook}

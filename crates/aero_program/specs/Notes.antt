@@ -3,15 +3,15 @@ use Rattle.std.specs.Prelude.{◌≡◌, ◌==◌, ◌&&◌, ℕ, ◌-◌, Bool,
 use Rattle.std.specs.List.{filter, list_all, list_any}
 use Rattle.aero_model.specs.declared.verdict.Ending.{Ending}
 use Rattle.aero_model.specs.declared.verdict.Ending.TheVariants as endings
-use Rattle.aero_batch.specs.declared.outcome.Cause.{Cause}
-use Rattle.aero_batch.specs.declared.outcome.Fault.{Fault}
-use Rattle.aero_batch.specs.declared.outcome.Fault.TheVariants.{Malformed, IllFormed}
-use Rattle.aero_batch.specs.declared.outcome.FaultyLine.{FaultyLine}
-use Rattle.aero_batch.specs.declared.outcome.Notable.{Notable}
-use Rattle.aero_batch.specs.declared.outcome.Notable.TheVariants.{Faulty, Unchecked}
+use Rattle.aero_telling.specs.declared.cause.Cause.{Cause}
+use Rattle.aero_telling.specs.declared.notable.Fault.{Fault}
+use Rattle.aero_telling.specs.declared.notable.Fault.TheVariants.{Malformed, IllFormed}
+use Rattle.aero_telling.specs.declared.notable.FaultyLine.{FaultyLine}
+use Rattle.aero_telling.specs.declared.notable.Notable.{Notable}
+use Rattle.aero_telling.specs.declared.notable.Notable.TheVariants.{Faulty, Unchecked}
 use Rattle.aero_faults.specs.declared.look.Look.{Look}
 use Rattle.aero_faults.specs.Sentences.{line_sentence, shape_sentence}
-use Rattle.aero_batch.specs.Founds.{Sighted}
+use Rattle.aero_telling.specs.Founds.{Sighted}
 use Rattle.aero_intake.specs.Source.{Trail}
 use Rattle.aero_intake.specs.declared.source.SourceOf.{SourceOf}
 use Rattle.aero_report.specs.Options.{Note}

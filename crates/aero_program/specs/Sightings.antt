@@ -1,7 +1,7 @@
 -- The names of the sources that are judged, and what contracts of a run see of them before it.
 use Rattle.std.specs.Prelude.{◌≡◌, ℕ, if◌then◌else◌, List, [], ◌∷◌, map, Option, Some, None, ⊤, codes, option_map, string_bytes, unwrap_or}
 use Rattle.std.specs.Str.{is_utf8}
-use Rattle.aero_batch.specs.Founds.{Sighted}
+use Rattle.aero_telling.specs.Founds.{Sighted}
 use Rattle.aero_model.specs.CallCounts.{Seen}
 use Rattle.aero_intake.specs.Source.{File, Nowhere, Place, Sight, Stream}
 use Rattle.aero_program.specs.declared.command.Sources.{Sources}

@@ -4,7 +4,7 @@ use Rattle.std.specs.Io.KnownBytes.{Appends, Keeps}
 use Rattle.std.specs.declared.io.ErrorKind.{ErrorKind}
 use Rattle.aero_model.specs.declared.counting.Counting.{Counting}
 use Rattle.aero_model.specs.CallCounts.{Seen, inner_of, seen_by}
-use Rattle.aero_batch.specs.Founds.{Took}
+use Rattle.aero_telling.specs.Founds.{Took}
 use Rattle.aero_program.specs.declared.lasting.Lasting.{Lasting}
 use Rattle.aero_program.specs.declared.output.Output.{Output}
 use Rattle.aero_program.specs.declared.retrying.Retrying.{Retrying}

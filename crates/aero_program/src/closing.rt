@@ -7,7 +7,6 @@ ghost use Rattle.aero_program.specs.declared.closing.Stage.TheVariants.{Plain, R
 
 use crate::files::{Opened, Opener};
 use crate::ghost_text::GhostText;
-use crate::sizes::Sizes;
 use crate::stamp::Stamp;
 use aero_closing::Closer;
 use aero_progress::reached::Work;
@@ -222,12 +221,8 @@ impl<'a, F: Opener> Opener for ClosingFiles<'a, F> {
         Ok(closing_of(self.alloc, file, stamp))
     }
 
-    fn is_plain(&self, path: &str) -> bool {
-        self.files.is_plain(path)
-    }
-
-    fn stamp_at(&self, path: &str) -> Option<Stamp> {
-        self.files.stamp_at(path)
+    fn look(&self, path: &str) -> Option<Stamp> {
+        self.files.look(path)
     }
 
     fn begin(&self, work: Work) {
@@ -244,13 +239,5 @@ fn closing_of<R: Read + Drop>(alloc: Global, file: R, stamp: Option<Stamp>) -> O
     Opened {
         file: Closing::new(alloc, file),
         stamp,
-    }
-}
-
-impl<F: Opener + Sizes> Sizes for ClosingFiles<'_, F> {
-    ghost has_size = { F.has_size };
-
-    fn size(&self, path: &str) -> Option<u64> {
-        self.files.size(path)
     }
 }

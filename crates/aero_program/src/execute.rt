@@ -1,8 +1,8 @@
 //! What the program does with what its words ask for.
 ghost use Rattle.std.specs.Prelude.{◌≡◌, ◌⊎◌, ◌≤◌, ◌++◌, ℕ, List, [], false, true, if◌then◌else◌, map, option_map, slice_get, unwrap_or, vec_len, None, Some, IfOk, IfSome, IsSome, OnOk, OnErr};
 ghost use Rattle.aero_model.specs.CallCounts.{Seen, seen_by};
-ghost use Rattle.aero_batch.specs.Founds.{Sighted, sighted, Took, WasTold};
-ghost use Rattle.aero_batch.specs.Telling.{SumsUp};
+ghost use Rattle.aero_telling.specs.Founds.{Sighted, sighted, Took, WasTold};
+ghost use Rattle.aero_telling.specs.Telling.{SumsUp};
 ghost use Rattle.aero_intake.specs.PlanTerms.{options_with, terms_of};
 ghost use Rattle.aero_program.specs.Executed.{Executes, ExecutesClosed, Ends, ends_blocks, IsLeftOf, Fails, Helps, Judges, Stops, TellsNoWords, TellsUnlabelled, TellsUnlisted, TellsWord};
 ghost use Rattle.aero_program.specs.declared.failure.Failure.TheVariants.{Memory};
@@ -33,16 +33,16 @@ use crate::notes::{line_note, note_texts, notes_of, reason_note};
 use crate::output::Output;
 use crate::reason::Reason;
 use crate::retrying::Retrying;
-use crate::sizes::{Sizes, are_worth_threads, tell_work};
+use crate::sizes::{are_worth_threads, look_at_all};
 use crate::sources::{Gathered, Ungathered, sources_of, untouched};
 use crate::status::end_after;
 use crate::traced::Traced;
-use aero_batch::told::Style;
-use aero_batch::{Cause, sum_up};
+use aero_batch::{Cause, run_in_turn, sum_up};
 use aero_intake::{Followed, Plan, SourceOf};
-use aero_lanes::{Report, run_in_lanes, run_in_turn};
+use aero_lanes::run_in_lanes;
 use aero_model::{Counting, Ending, Except, Name};
 use aero_report::{Cut, Note, put};
+use aero_telling::{Report, Style};
 use std::alloc::{AllocError, Global};
 use std::io::{Read, Write};
 use std::sync::Wait;
@@ -76,7 +76,7 @@ pub struct Streams<'a, O: Write, E: Write> {
 /// flush that is interrupted is tried again.
 pub fn execute<
     S: Read + Drop + Send,
-    F: Opener + Sizes + Drop + Sync,
+    F: Opener + Drop + Sync,
     O: Write,
     E: Write,
     T: Threads + Wait + Copy + Send + Sync + 'static,
@@ -122,7 +122,7 @@ fn ends_blocks(asked: &Result<Config, Stop>) -> bool
 // Does what the words ask for, with the lines that end the open blocks of each source.
 fn execute_closed<
     S: Read + Drop + Send,
-    F: Opener + Sizes + Drop + Sync,
+    F: Opener + Drop + Sync,
     O: Write,
     E: Write,
     T: Threads + Wait + Copy + Send + Sync + 'static,
@@ -150,7 +150,7 @@ where
 // Does what the words ask for with the sources as they are.
 fn execute_over<
     S: Read + Drop + Send,
-    F: Opener + Sizes + Drop + Sync,
+    F: Opener + Drop + Sync,
     O: Write,
     E: Write,
     T: Threads + Wait + Copy + Send + Sync + 'static,
@@ -208,7 +208,7 @@ struct Chosen {
 // Reads the files of labels, judges the sources, and tells what is found.
 fn judge<
     S: Read + Drop + Send,
-    F: Opener + Sizes + Drop + Sync,
+    F: Opener + Drop + Sync,
     O: Write,
     E: Write,
     T: Threads + Wait + Copy + Send + Sync + 'static,
@@ -243,7 +243,7 @@ where
 // Judges the sources by the labels that were chosen, and tells what is found.
 fn judge_by<
     S: Read + Drop + Send,
-    F: Opener + Sizes + Drop + Sync,
+    F: Opener + Drop + Sync,
     O: Write,
     E: Write,
     T: Threads + Wait + Copy + Send + Sync + 'static,
@@ -281,11 +281,12 @@ where
         }
     };
     let Gathered {
-        sources,
+        mut sources,
         stdin: rest,
     } = gathered;
-    tell_work(files, &asked, &sources);
-    let in_lanes = are_worth_threads(files, &sources);
+    let extent = look_at_all(files, &asked, &mut sources);
+    files.begin(extent.work);
+    let in_lanes = are_worth_threads(extent);
     let (report, sources) = run_all(host, in_lanes, sources, &mut output.writer, &plan);
     let labels = told_of(
         plan.terms.except().labels(),
@@ -462,7 +463,8 @@ fn told_of(labels: &[Name], all_read: bool) -> &[Name]
     if all_read { labels } else { &[] }
 }
 
-// Writes the lines of the sources: by a thread for each, or in turn.
+// Writes the lines of the sources: by a thread for each, or in turn. With one worker they are read in turn, because it reads
+// ahead while the calling thread judges.
 fn run_all<R: Followed + Drop + Send, W: Write, T: Threads + Wait + Copy + Send + Sync + 'static>(
     host: Host<T>,
     in_lanes: bool,
@@ -476,7 +478,7 @@ fn run_all<R: Followed + Drop + Send, W: Write, T: Threads + Wait + Copy + Send 
         (seen_by W.contents writer.old) (seen_by W.contents writer.new) result.0.told.endings.items
         result.0.told.notables.items result.0.told.counts result.0.cause }
 {
-    if in_lanes {
+    if in_lanes && plan.workers > 1 {
         return run_in_lanes(host.rt, host.alloc, sources, writer, plan);
     }
     run_in_turn(host.rt, host.alloc, sources, writer, plan)

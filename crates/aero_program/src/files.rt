@@ -2,6 +2,7 @@
 ghost use Rattle.std.specs.Prelude.{◌≡◌, ℕ, List, Option, None, IfErr, IfOk, IfSome, ⊤};
 ghost use Rattle.std.specs.Io.{ReadsAtMost};
 ghost use Rattle.std.specs.Io.KnownBytes.{Keeps, ReadConsumes};
+ghost use Rattle.aero_program.specs.Sizes.{MayBear};
 ghost use Rattle.aero_program.specs.declared.stamp.Stamp.{Stamp};
 
 use crate::stamp::{Stamp, stamp_in, stamp_of};
@@ -11,7 +12,6 @@ use aero_progress::metered::Metered;
 use aero_progress::reached::Work;
 use std::fs::File;
 use std::io::Read;
-use std::path::Path;
 use std::rt::Files;
 use std::{fs, io};
 
@@ -59,13 +59,13 @@ pub trait Opener {
         ensures stamped { IfOk result (λ opened.
             IfSome opened.stamp (λ stamp. holds path.now stamp (Self.File.remaining opened.file))) };
 
-    /// Whether there is a plain file at the path, of which no read waits.
-    fn is_plain(&self, path: &str) -> bool;
+    /// Looks for a plain file at the path, of which no read waits, and returns its stamp, or `None` if there is no such file or
+    /// its stamp can't be told.
+    fn look(&self, path: &str) -> Option<Stamp>
+        ensures found { IfSome result (MayBear holds path.now) };
 
-    /// The stamp that a plain file at the path has now, if there is one and it can be told.
-    fn stamp_at(&self, path: &str) -> Option<Stamp>;
-
-    /// Hears how much there is to do, once a list of names has been read. It is for a meter alone, if there is one.
+    /// Hears how much there is to do, once each file of a run was looked at. All that was read before is of no source. It is for
+    /// a meter alone, if there is one.
     fn begin(&self, _work: Work) {}
 }
 
@@ -92,12 +92,8 @@ impl<O: Opener> Opener for &O {
         (**self).open_again(path)
     }
 
-    fn is_plain(&self, path: &str) -> bool {
-        (**self).is_plain(path)
-    }
-
-    fn stamp_at(&self, path: &str) -> Option<Stamp> {
-        (**self).stamp_at(path)
+    fn look(&self, path: &str) -> Option<Stamp> {
+        (**self).look(path)
     }
 
     fn begin(&self, work: Work) {
@@ -114,11 +110,6 @@ pub struct FilesOf<F> {
 impl<F: Files> FilesOf<F> {
     pub fn new(files: F) -> FilesOf<F> {
         FilesOf { files }
-    }
-
-    // What reaches them.
-    pub(crate) fn files(&self) -> &F {
-        &self.files
     }
 }
 
@@ -148,11 +139,7 @@ impl<F: Files> Opener for FilesOf<F> {
         self.open(path)
     }
 
-    fn is_plain(&self, path: &str) -> bool {
-        Path::new(path).is_file(&self.files)
-    }
-
-    fn stamp_at(&self, path: &str) -> Option<Stamp> {
+    fn look(&self, path: &str) -> Option<Stamp> {
         let metadata = fs::metadata(&self.files, path).ok()?;
         stamp_in(&metadata)
     }
@@ -169,11 +156,6 @@ pub struct MeteredFiles<'a, O> {
 impl<'a, O: Opener> MeteredFiles<'a, O> {
     pub fn new(opener: O, meter: Option<&'a Meter>) -> MeteredFiles<'a, O> {
         MeteredFiles { opener, meter }
-    }
-
-    // What opens them.
-    pub(crate) fn opener(&self) -> &O {
-        &self.opener
     }
 }
 
@@ -212,12 +194,8 @@ impl<'a, O: Opener> Opener for MeteredFiles<'a, O> {
         Ok(metered(opened, None))
     }
 
-    fn is_plain(&self, path: &str) -> bool {
-        self.opener.is_plain(path)
-    }
-
-    fn stamp_at(&self, path: &str) -> Option<Stamp> {
-        self.opener.stamp_at(path)
+    fn look(&self, path: &str) -> Option<Stamp> {
+        self.opener.look(path)
     }
 
     fn begin(&self, work: Work) {

@@ -62,7 +62,7 @@
 //!   of which the report tells.
 //! - Where the flush of standard output fails as that of a pipe whose reader has gone, no line says so: `execute`,
 //!   `status_after`, `Failure::of_write`, `of_cut`.
-//! - The whole size of files is the sum of theirs, where each is known: `whole_size`.
+//! - The whole size of files is the sum of theirs, by their stamps, if each is a plain one: `look_at_all`, `whole`.
 //! - A call through `Retrying` is done exactly where one call of the stream was done, and once. It fails exactly where
 //!   one failed otherwise than by an interruption, or after 2^64 - 1 interruptions: `Retrying`: `read`, `write`,
 //!   `flush`.

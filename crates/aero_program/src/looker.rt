@@ -63,7 +63,7 @@ impl<'a, F: Opener> Looker<'a, F> {
 
     // Whether a plain file is at the path now that has this stamp.
     fn is_same(&self, path: &str, stamp: Stamp) -> bool {
-        is_stamp(self.files.stamp_at(path), stamp)
+        is_stamp(self.files.look(path), stamp)
     }
 
     // The same of a file that can be read.

@@ -1,7 +1,7 @@
 //! The sources that are asked for.
 ghost use Rattle.std.specs.Prelude.{◌≡◌, ◌⊎◌, ◌<◌, ◌≤◌, ◌^◌, ◌∷◌, ⊤, length, ℕ, List, [], Some, None, if◌then◌else◌, IfErr, IfOk, OnOk, map, option_map, codes, string_bytes, unwrap_or, vec_len};
 ghost use Rattle.std.specs.Str.{is_utf8};
-ghost use Rattle.aero_batch.specs.Founds.{sighted};
+ghost use Rattle.aero_telling.specs.Founds.{sighted};
 ghost use Rattle.aero_intake.specs.Source.{Nowhere, Stream};
 ghost use Rattle.aero_program.specs.Command.{count_named};
 ghost use Rattle.aero_model.specs.CallCounts.{Seen};
@@ -56,8 +56,8 @@ impl<S> From<AllocError> for Ungathered<S> {
 }
 
 /// Standard input, under its name or `-`, or the file of each word, named as it, or of each name in a
-/// list, which is read for that. No other file is opened yet, and what is no plain file, a pipe say, is
-/// taken for one that may wait. A file can't be opened of which a list has a name that isn't UTF-8. Each looks for the labels
+/// list, which is read for that. No other file is touched yet, and each is taken for one that may wait, until `look_at_all`
+/// has looked at it. A file can't be opened of which a list has a name that isn't UTF-8. Each looks for the labels
 /// of the list, where it has any. Nothing is read of standard input but a list that it has.
 ///
 /// # Errors
@@ -257,7 +257,7 @@ fn file_of<'a, S: Read + Drop, F: Opener + Drop>(
     Ok(SourceOf {
         name: Vec::from_slice(alloc, path.as_bytes())?,
         reader: Traced::new(Input::path(alloc, files, path)?.watched_by(watch)),
-        may_wait: !files.is_plain(path),
+        may_wait: true,
     })
 }
 

@@ -21,7 +21,6 @@ use aero_program::input::Input;
 use aero_program::output::Output;
 use aero_program::reason::Reason;
 use aero_program::retrying::Retrying;
-use aero_program::sizes::Sizes;
 use std::alloc::{AllocError, Global};
 use std::io::{ErrorKind, Read};
 use std::sync::Wait;
@@ -123,7 +122,7 @@ fn errors_of(alloc: Global, damage: &Damage) -> Interrupted<Narrow> {
 // Whether a call answers so, where standard input has this text.
 pub(crate) fn is_answered<
     R: AllocGlobal + Threads + Wait + Copy + Drop + Send + Sync + 'static,
-    F: Opener + Sizes + Drop + Sync,
+    F: Opener + Drop + Sync,
 >(
     rt: R,
     files: &F,

@@ -10,10 +10,10 @@ use std::test::Fail;
 
 // A reader that fails at one call, once it has given so many bytes, and works again afterwards.
 #[derive(Drop)]
-struct BreaksOnce<'a> {
-    text: &'a [u8],
-    left: usize,
-    has_failed: bool,
+pub(crate) struct BreaksOnce<'a> {
+    pub(crate) text: &'a [u8],
+    pub(crate) left: usize,
+    pub(crate) has_failed: bool,
 }
 
 impl Read for BreaksOnce<'_> {

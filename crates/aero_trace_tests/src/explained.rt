@@ -133,10 +133,11 @@ fn shows(alloc: Global, judge: &Judge, wanted: &str) -> bool {
 }
 
 fn is_shown(alloc: Global, parts: &[Parsed], terms: &Terms, wanted: &str) -> bool {
-    let mut judge = Judge::new(alloc, terms);
+    let Ok(mut judge) = Judge::new(alloc, terms) else {
+        return false;
+    };
     judge.feed_all(parts, terms.except());
-    let is_shown = shows(alloc, &judge, wanted);
-    is_shown & judge.verdict().is_ok()
+    shows(alloc, &judge, wanted)
 }
 
 // Labels whose blocks are no transactions, a trace, and its verdict. With a violation stand the label of the block and the

@@ -95,7 +95,9 @@ fn finds(alloc: Global, finding: Result<Finding, AllocError>, wanted: &str) -> b
 
 // Whether this is found of the parts at once, and by a judge at its end.
 fn is_found(alloc: Global, parts: &[Parsed], terms: &Terms, wanted: &str) -> bool {
-    let mut judge = Judge::new(alloc, terms);
+    let Ok(mut judge) = Judge::new(alloc, terms) else {
+        return false;
+    };
     judge.feed_all(parts, terms.except());
     finds(alloc, judge.finish(), wanted) && finds(alloc, judge_trace(alloc, parts, terms), wanted)
 }

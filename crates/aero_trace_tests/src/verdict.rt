@@ -148,7 +148,7 @@ fn has_verdict_beside(
 ) -> Option<bool> {
     let (labels, wanted) = row;
     let terms = terms_of(alloc, limits, labels, asked)?;
-    let mut judge = Judge::new(alloc, &terms);
+    let mut judge = Judge::new(alloc, &terms).ok()?;
     judge.feed_all(parts, terms.except());
     Some(says(alloc, judge.verdict().ok(), wanted))
 }

@@ -12,7 +12,7 @@ use Rattle.aero_model.specs.declared.verdict.Verdict.TheVariants.{Violation}
 use Rattle.aero_model.specs.Blocks.{Block, Unary, transaction, HasEnded}
 use Rattle.aero_model.specs.Graph.{Visit, IsTelling}
 use Rattle.aero_grammar.specs.Reading.{Reading}
-use Rattle.aero_verdict.specs.Verdict.{counted_events, checked_trace, IsOnLine, IsViolation, IsVerdict}
+use Rattle.aero_verdict.specs.Verdict.{counted_events, checked_trace, IsOnLine, IsViolation}
 use Rattle.aero_model.specs.Terms.{Rules}
 
 -- whether a cycle goes with the verdict: it is asked for, and there is a violation

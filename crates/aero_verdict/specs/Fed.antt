@@ -1,5 +1,5 @@
 -- What a caller sees of a trace that is fed part by part.
-use Rattle.std.specs.Prelude.{◌≡◌, ◌↔◌, ◌⊎◌, ◌+◌, Bool, true, false, List, ◌++◌, Option}
+use Rattle.std.specs.Prelude.{◌≡◌, ◌↔◌, ◌⊎◌, ◌+◌, Bool, true, false, List, ◌++◌, [], Option, None}
 use Rattle.aero_model.specs.declared.verdict.Cycle.{Cycle}
 use Rattle.aero_model.specs.declared.verdict.LineFault.TheVariants.{TooManyLines}
 use Rattle.aero_model.specs.declared.verdict.Verdict.{Verdict}
@@ -17,6 +17,10 @@ pub record Fed : Type 0 where
   pub parts : List Reading
   pub certain : Option Verdict
   pub is_spent : Bool
+
+-- nothing was fed
+abbrev pub fed_nothing : Rules → Fed
+fed_nothing rules = record { rules = rules; parts = []; certain = None; is_spent = false }
 
 -- something is wrong with these parts, and this is the verdict, whatever parts come after them; and what shows it then shows it now, and the other
 -- way round

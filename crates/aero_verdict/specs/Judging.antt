@@ -23,7 +23,7 @@ abbrev pub judging : Fed → (order explain : Bool) → Judging
 judging fed order explain = record { terms = on fed.rules order explain; parts = fed.parts; certain = fed.certain; is_spent = fed.is_spent }
 
 abbrev pub judging_of : Judge → Judging
-judging_of (Plain fed) = judging fed false false
-judging_of (InOrder fed) = judging fed true false
-judging_of (Explaining fed) = judging fed false true
-judging_of (InFull fed) = judging fed true true
+judging_of (Plain monitor) = judging monitor.value false false
+judging_of (InOrder monitor) = judging monitor.value true false
+judging_of (Explaining monitor) = judging monitor.value false true
+judging_of (InFull monitor) = judging monitor.value true true

@@ -1,9 +1,10 @@
 //! What judges a trace that comes part by part, on the terms that are asked for.
-ghost use Rattle.std.specs.Prelude.{◌≡◌, ◌++◌, ◌∷◌, [], true, false, Some, is_some, option_map, IfOk, IfSome, OnErr};
+ghost use Rattle.std.specs.Prelude.{◌≡◌, ◌≤◌, ◌^◌, ◌++◌, ◌∷◌, [], true, false, length, Some, is_some, option_map, IfOk, IfSome, OnOk, OnErr};
+ghost use Rattle.aero_grammar.specs.Reading.{reading_of};
 ghost use Rattle.aero_model.specs.Terms.{on, to_the_end};
 ghost use Rattle.aero_model.specs.Verdicts.{HasOwnFault};
 ghost use Rattle.aero_verdict.specs.Explained.{ShowsIfAsked};
-ghost use Rattle.aero_verdict.specs.Fed.{IsCertain, IsOpen};
+ghost use Rattle.aero_verdict.specs.Fed.{IsCertain, IsOpen, fed_nothing};
 ghost use Rattle.aero_verdict.specs.Finding.{HasOwnVerdict, IsTraceFinding};
 ghost use Rattle.aero_verdict.specs.Judging.{judging_of, nothing_judged};
 ghost use Rattle.aero_verdict.specs.Verdict.{IsVerdict};
@@ -12,7 +13,8 @@ use crate::full::InFull;
 use crate::in_order::InOrder;
 use crate::monitor::{Monitor, feed_all};
 use crate::recorder::Recorder;
-use aero_grammar::Parsed;
+use aero_engine::Engine;
+use aero_grammar::{Parsed, parse_block};
 use aero_leads::Leads;
 use aero_model::{Cycle, Except, Finding, Terms, Verdict};
 use std::alloc::{AllocError, Global};
@@ -28,7 +30,7 @@ pub fn judge_trace(alloc: Global, parts: &[Parsed], terms: &Terms) -> Result<Fin
     ensures finding { IfOk result (IsTraceFinding parts.now (to_the_end terms.now)) }
     ensures own_fault { IfOk result HasOwnVerdict }
 {
-    let mut judge = Judge::new(alloc, terms);
+    let mut judge = Judge::new(alloc, terms)?;
     judge.feed_all(parts, terms.except());
     judge.finish()
 }
@@ -40,27 +42,29 @@ pub fn judge_trace(alloc: Global, parts: &[Parsed], terms: &Terms) -> Result<Fin
 #[derive(Drop)]
 pub enum Judge {
     /// It finds the verdict alone.
-    Plain(Monitor<Leads>),
+    Plain(Box<Monitor<Leads>, Global>),
     /// It also finds the serial order, if the verdict is `Serializable`.
-    InOrder(Monitor<InOrder>),
+    InOrder(Box<Monitor<InOrder>, Global>),
     /// It also finds what explains the verdict, if that is `Violation` or `Pending`.
-    Explaining(Monitor<Recorder>),
+    Explaining(Box<Monitor<Recorder>, Global>),
     /// It also finds both, each with the verdict that it goes with.
-    InFull(Monitor<InFull>),
+    InFull(Box<Monitor<InFull>, Global>),
 }
 
 impl Judge {
     /// It was fed no part, and judges on these terms, but to the end of the trace.
-    pub fn new(alloc: Global, terms: &Terms) -> Judge
-        ensures { judging_of result ≡ nothing_judged (to_the_end terms.now) }
+    ///
+    /// # Errors
+    ///
+    /// `AllocError` if memory was refused.
+    pub fn new(alloc: Global, terms: &Terms) -> Result<Judge, AllocError>
+        ensures { IfOk result (λ judge. judging_of judge ≡ nothing_judged (to_the_end terms.now)) }
     {
-        let limits = terms.limits();
-        let except = terms.except();
         match (terms.order(), terms.explain()) {
-            (false, false) => Judge::Plain(Monitor::new(alloc, limits, except)),
-            (true, false) => Judge::InOrder(Monitor::new(alloc, limits, except)),
-            (false, true) => Judge::Explaining(Monitor::new(alloc, limits, except)),
-            (true, true) => Judge::InFull(Monitor::new(alloc, limits, except)),
+            (false, false) => Ok(Judge::Plain(boxed(alloc, terms)?)),
+            (true, false) => Ok(Judge::InOrder(boxed(alloc, terms)?)),
+            (false, true) => Ok(Judge::Explaining(boxed(alloc, terms)?)),
+            (true, true) => Ok(Judge::InFull(boxed(alloc, terms)?)),
         }
     }
 
@@ -93,6 +97,35 @@ impl Judge {
             Judge::Explaining(monitor) => monitor.feed(part, except),
             Judge::InFull(monitor) => monitor.feed(part, except),
         }
+    }
+
+    /// Reads a text of whole lines, at most 1,073,741,824 bytes, and judges it as the next part, as `feed` does.
+    ///
+    /// # Errors
+    ///
+    /// `AllocError` if memory was refused. The text is then no part, or the judge returns one at each call from then on.
+    pub fn feed_text(
+        &mut self,
+        alloc: Global,
+        text: &[u8],
+        except: &Except,
+    ) -> Result<bool, AllocError>
+        requires labels { except.now ≡ (judging_of self.old).terms.rules.labels }
+        requires short { length text.now ≤ 2 ^ 30 }
+        ensures terms { (judging_of self.new).terms ≡ (judging_of self.old).terms }
+        ensures fed { OnOk result ((judging_of self.new).parts ≡ (judging_of self.old).parts ++
+            reading_of text.now ∷ []) }
+        ensures told { IfOk result (λ is_certain. is_certain ≡
+            is_some (judging_of self.new).certain) }
+        ensures certain { IfSome (judging_of self.old).certain
+            (IsCertain (judging_of self.old).parts (judging_of self.old).terms.rules) →
+            IfSome (judging_of self.new).certain
+            (IsCertain (judging_of self.new).parts (judging_of self.new).terms.rules) }
+        ensures going_on { IfOk result (λ is_certain. is_certain ≡ false →
+            IsOpen (judging_of self.new).parts (judging_of self.new).terms.rules) }
+    {
+        let part = parse_block(alloc, text)?;
+        self.feed(&part, except)
     }
 
     /// Judges these parts, one after the other, with the same labels as at first. If memory is refused, `finish` and
@@ -162,10 +195,10 @@ impl Judge {
         ensures own_fault { IfOk result HasOwnVerdict }
     {
         match self {
-            Judge::Plain(monitor) => judged(monitor),
-            Judge::InOrder(monitor) => ordered(monitor),
-            Judge::Explaining(monitor) => monitor.finish_to_explain(),
-            Judge::InFull(monitor) => monitor.finish_in_full(),
+            Judge::Plain(monitor) => judged(Box::into_inner(monitor)),
+            Judge::InOrder(monitor) => ordered(Box::into_inner(monitor)),
+            Judge::Explaining(monitor) => Box::into_inner(monitor).finish_to_explain(),
+            Judge::InFull(monitor) => Box::into_inner(monitor).finish_in_full(),
         }
     }
 
@@ -180,12 +213,21 @@ impl Judge {
         ensures own_fault { IfOk result HasOwnFault }
     {
         match self {
-            Judge::Plain(monitor) => monitor.finish(),
-            Judge::InOrder(monitor) => monitor.finish(),
-            Judge::Explaining(monitor) => monitor.finish(),
-            Judge::InFull(monitor) => monitor.finish(),
+            Judge::Plain(monitor) => Box::into_inner(monitor).finish(),
+            Judge::InOrder(monitor) => Box::into_inner(monitor).finish(),
+            Judge::Explaining(monitor) => Box::into_inner(monitor).finish(),
+            Judge::InFull(monitor) => Box::into_inner(monitor).finish(),
         }
     }
+}
+
+// A monitor that was fed no part, on these terms. It lies in a box, because it is large. An `AllocError` says that memory
+// was refused.
+fn boxed<E: Engine>(alloc: Global, terms: &Terms) -> Result<Box<Monitor<E>, Global>, AllocError>
+    ensures { IfOk result (λ monitor. monitor.value ≡ fed_nothing terms.now.rules) }
+{
+    let monitor = Monitor::new(alloc, terms.limits(), terms.except());
+    Ok(Box::new(alloc, monitor)?)
 }
 
 // The verdict on what a monitor was fed.

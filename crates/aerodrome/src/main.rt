@@ -28,7 +28,6 @@ use aero_program::execute::{Host, Streams, execute};
 use aero_program::files::{FilesOf, MeteredFiles};
 use aero_program::output::Output;
 use aero_program::retrying::Retrying;
-use aero_program::sizes::whole_size;
 use aero_progress::beside::Beside;
 use aero_progress::line::{ProgressLine, Surface};
 use aero_progress::metered::Metered;
@@ -90,8 +89,8 @@ fn asked_by<R: Runtime + AllocGlobal + Threads>(
     Ok(config.on(terminals).within(processors(rt)))
 }
 
-// What shows on the line how far the run has come, if that is asked for and can be had. Where the sources stand in a list,
-// it shows that once the list has been read.
+// What shows on the line how far the run has come, if that is asked for and can be had. If the sources are files, it
+// shows that once each was looked at.
 fn ticker_for<W, R>(
     rt: R,
     alloc: Global,
@@ -100,7 +99,7 @@ fn ticker_for<W, R>(
 ) -> Option<Ticker<W>>
 where
     W: Write + Drop + Send + 'static,
-    R: Files + Threads + Wait + Clock + Copy + Drop + Send + 'static,
+    R: Threads + Wait + Clock + Copy + Send + 'static,
 {
     let Ok(config) = asked else {
         return None;
@@ -110,19 +109,18 @@ where
         first_after: config.progress.first_after(is_terminal)?,
         tick: TICK,
     };
-    Ticker::start(rt, alloc, line, work_of(rt, &config.files), pace)
+    Ticker::start(rt, alloc, line, work_of(&config.files), pace)
 }
 
-// How much there is to do, where it is known before a list is read.
-fn work_of<R: Files + Drop>(rt: R, asked: &Sources) -> Option<Work> {
-    if !asked.are_counted() {
-        return None;
+// How much there is to do, where it is known before a file is looked at: standard input is one source.
+fn work_of(asked: &Sources) -> Option<Work> {
+    match asked {
+        Sources::Standard(_) => Some(Work {
+            sources: 1,
+            size: None,
+        }),
+        Sources::Files(_) | Sources::Listed(_) => None,
     }
-    let named = asked.named();
-    Some(Work {
-        sources: named.len().max(1) as u64,
-        size: whole_size(&FilesOf::new(rt), named),
-    })
 }
 
 // The three standard streams.

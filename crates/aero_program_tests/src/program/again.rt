@@ -50,25 +50,28 @@ static UNKNOWN_ROWS: [Row; 6] = [
     ((b"", b"", 1, 0, true), UNKNOWN_WORDS),
 ];
 
-// How many stamps are alike that a file is found to have, of that of the run's open on, and what is told of its fault.
+// How many stamps are alike that a file is found to have, and what is told of its fault. The first is found before the run opens
+// it, and the second by that open.
 type Stamped = (u32, &'static [u8]);
 
-// A stamp is asked for before the look, at each of its opens, and afterwards.
-static HELD_STAMPS: [Stamped; 6] = [
+// A stamp is asked for before the second look, at each of its opens, and afterwards.
+static HELD_STAMPS: [Stamped; 7] = [
     (0, HELD_SENTENCE),
-    (1, HELD_WORDS),
+    (1, HELD_SENTENCE),
     (2, HELD_WORDS),
     (3, HELD_WORDS),
     (4, HELD_WORDS),
-    (5, HELD_SENTENCE),
+    (5, HELD_WORDS),
+    (6, HELD_SENTENCE),
 ];
 
-static UNKNOWN_STAMPS: [Stamped; 5] = [
+static UNKNOWN_STAMPS: [Stamped; 6] = [
     (0, UNKNOWN_SENTENCE),
-    (1, UNKNOWN_WORDS),
+    (1, UNKNOWN_SENTENCE),
     (2, UNKNOWN_WORDS),
     (3, UNKNOWN_WORDS),
-    (4, UNKNOWN_SENTENCE),
+    (4, UNKNOWN_WORDS),
+    (5, UNKNOWN_SENTENCE),
 ];
 
 // The file `f` alone.

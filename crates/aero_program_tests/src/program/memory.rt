@@ -12,7 +12,6 @@ use aero_program::files::{Opened, Opener};
 use aero_program::laws::known_files_are_judged;
 use aero_program::output::Output;
 use aero_program::retrying::Retrying;
-use aero_program::sizes::Sizes;
 use aero_program::stamp::Stamp;
 use std::alloc::Global;
 use std::io;
@@ -53,20 +52,7 @@ impl Opener for Memory {
         self.open(path)
     }
 
-    fn is_plain(&self, _path: &str) -> bool {
-        false
-    }
-
-    fn stamp_at(&self, _path: &str) -> Option<Stamp> {
-        None
-    }
-}
-
-// How many bytes they have isn't said.
-impl Sizes for Memory {
-    ghost has_size = { λ _ _. ⊤ };
-
-    fn size(&self, _path: &str) -> Option<u64> {
+    fn look(&self, _path: &str) -> Option<Stamp> {
         None
     }
 }

@@ -2,12 +2,13 @@
 use crate::program::streams::{Drawer, Text};
 use aero_model::{Except, SharedExcept};
 use aero_program::command::Sources;
-use aero_program::files::FilesOf;
+use aero_program::files::{FilesOf, Opener};
 use aero_program::listing::Unlisted;
 use aero_program::reason::Reason;
 use aero_program::retrying::Retrying;
-use aero_program::sizes::{Sizes, whole_size};
+use aero_program::sizes::look_at_all;
 use aero_program::sources::{Gathered, Ungathered, sources_of};
+use aero_progress::reached::Work;
 use std::alloc::{AllocError, Global};
 use std::test::Fail;
 
@@ -21,13 +22,29 @@ type Made<'a> = Gathered<Text, &'a Drawer>;
 type Missed = Ungathered<Text>;
 
 // The files of the words, or standard input where there are none.
-fn sources_named<'a>(alloc: Global, files: &'a Drawer, words: &[&str]) -> Result<Made<'a>, Missed> {
-    let except = no_labels(alloc)?;
+fn named(alloc: Global, words: &[&str]) -> Result<Sources, AllocError> {
     if words.is_empty() {
-        return sources_of(alloc, files, EMPTY, &Sources::Standard(None), &except);
+        return Ok(Sources::Standard(None));
     }
-    let words = Sources::Files(owned(alloc, words)?);
-    sources_of(alloc, files, EMPTY, &words, &except)
+    Ok(Sources::Files(owned(alloc, words)?))
+}
+
+// The sources that are asked for, after a look at each.
+fn looked_at<'a>(
+    alloc: Global,
+    files: &'a Drawer,
+    stdin: Text,
+    asked: &Sources,
+) -> Result<Made<'a>, Missed> {
+    let except = no_labels(alloc)?;
+    let mut made = sources_of(alloc, files, stdin, asked, &except)?;
+    let _extent = look_at_all(files, asked, &mut made.sources);
+    Ok(made)
+}
+
+fn sources_named<'a>(alloc: Global, files: &'a Drawer, words: &[&str]) -> Result<Made<'a>, Missed> {
+    let asked = named(alloc, words)?;
+    looked_at(alloc, files, EMPTY, &asked)
 }
 
 // The list without a label.
@@ -100,10 +117,7 @@ fn is_listed(alloc: Global, path: &str, row: &Listed) -> bool {
     let Ok(path) = String::from_str(alloc, path) else {
         return false;
     };
-    let Ok(except) = no_labels(alloc) else {
-        return false;
-    };
-    match sources_of(alloc, &drawer, stdin, &Sources::Listed(path), &except) {
+    match looked_at(alloc, &drawer, stdin, &Sources::Listed(path)) {
         Ok(made) => are_named(&made, row.1) && may_wait_so(&made, row.2),
         Err(_) => false,
     }
@@ -209,31 +223,35 @@ fn reason_in(why: Unlisted) -> Option<Reason> {
     }
 }
 
-// How many bytes the files of these words have together.
-fn size_of<Z: Sizes>(alloc: Global, files: &Z, words: &[&str]) -> Result<Option<u64>, AllocError> {
-    let mut owned = Vec::new(alloc);
-    for word in words {
-        owned.push(String::from_str(alloc, word)?)?;
-    }
-    Ok(whole_size(files, &owned))
+// How much there is to do with the files of these words, or with standard input if there are none.
+fn work_of<F: Opener + Drop>(alloc: Global, files: &F, words: &[&str]) -> Option<Work> {
+    let asked = named(alloc, words).ok()?;
+    let except = no_labels(alloc).ok()?;
+    let mut made = sources_of(alloc, files, EMPTY, &asked, &except).ok()?;
+    Some(look_at_all(files, &asked, &mut made.sources).work)
 }
 
 // The whole size is known where each word names a plain file, and it has no more bytes than a number may say.
 #[test]
-fn the_whole_size_is_that_of_plain_files(rt: HostRuntime) -> Result<(), Fail> {
+fn the_whole_size_is_that_of_plain_files(rt: HostRuntime) {
     let drawer = Drawer { text: b"" };
-    let rows: [(&[&str], Option<u64>); 6] = [
-        (&["p1"], Some(2)),
-        (&["p1", "p22", "p1"], Some(7)),
-        (&["p1", "q"], None),
-        (&["p+"], Some(u64::MAX)),
-        (&["p+", "p1"], None),
-        (&[], None),
+    let rows: [(&[&str], u64, Option<u64>); 6] = [
+        (&["p1"], 1, Some(2)),
+        (&["p1", "p22", "p1"], 3, Some(7)),
+        (&["p1", "q"], 2, None),
+        (&["p+"], 1, Some(u64::MAX)),
+        (&["p+", "p1"], 2, None),
+        (&[], 1, None),
     ];
-    for (words, expected) in rows {
-        assert!(rt; size_of(rt.alloc(), &drawer, words)? == expected);
+    for (words, sources, size) in rows {
+        assert!(rt; work_of(rt.alloc(), &drawer, words) == Some(Work { sources, size }));
     }
-    let of_system = size_of(rt.alloc(), &FilesOf::new(rt), &["/dev/null"])?;
-    assert!(rt; of_system == None);
-    Ok(())
+    let of_system = work_of(rt.alloc(), &FilesOf::new(rt), &["/dev/null"]);
+    assert!(rt;
+        of_system
+            == Some(Work {
+                sources: 1,
+                size: None
+            })
+    );
 }

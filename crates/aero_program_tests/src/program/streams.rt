@@ -2,7 +2,6 @@
 ghost use Rattle.std.specs.Prelude.{◌≡◌, Some, ⊤};
 
 use aero_program::files::{Opened, Opener};
-use aero_program::sizes::Sizes;
 use aero_program::stamp::{Moment, Stamp};
 use std::alloc::Global;
 use std::io;
@@ -190,7 +189,7 @@ fn spend(count: &AtomicU64) -> bool {
     left > 0
 }
 
-// The stamp of a file that was written in this second.
+// The stamp of a file of three bytes that was written in this second.
 fn written_in(second: i64) -> Stamp {
     let moment = Moment {
         seconds: second,
@@ -205,7 +204,15 @@ fn written_in(second: i64) -> Stamp {
     }
 }
 
-// Plain files and others, each with one text. A plain one has a path that begins with a `p`.
+// The stamp of a file of so many bytes.
+fn sized(bytes: u64) -> Stamp {
+    let mut stamp = written_in(0);
+    stamp.size = bytes;
+    stamp
+}
+
+// Plain files and others, each with one text. A plain one has a path that begins with a `p`. It is said to have as many bytes as
+// its path, and that at `p+` as many as there can be.
 #[derive(Drop)]
 pub(crate) struct Drawer {
     pub(crate) text: &'static [u8],
@@ -225,7 +232,7 @@ impl Opener for Drawer {
         };
         Ok(Opened {
             file,
-            stamp: self.stamp_at(path),
+            stamp: self.look(path),
         })
     }
 
@@ -237,29 +244,12 @@ impl Opener for Drawer {
         self.open(path)
     }
 
-    fn is_plain(&self, path: &str) -> bool {
-        path.starts_with("p")
-    }
-
-    fn stamp_at(&self, path: &str) -> Option<Stamp> {
-        if self.is_plain(path) {
-            Some(written_in(0))
-        } else {
-            None
-        }
-    }
-}
-
-// A plain one has as many bytes as its path, and that at `p+` as many as there can be.
-impl Sizes for Drawer {
-    ghost has_size = { λ _ _. ⊤ };
-
-    fn size(&self, path: &str) -> Option<u64> {
+    fn look(&self, path: &str) -> Option<Stamp> {
         if path == "p+" {
-            return Some(u64::MAX);
+            return Some(sized(u64::MAX));
         }
-        if self.is_plain(path) {
-            Some(path.len() as u64)
+        if path.starts_with("p") {
+            Some(sized(path.len() as u64))
         } else {
             None
         }
@@ -288,7 +278,7 @@ impl Opener for Shelf {
         };
         Ok(Opened {
             file: Interrupted::new(text, self.times),
-            stamp: self.stamp_at(path),
+            stamp: self.look(path),
         })
     }
 
@@ -300,24 +290,8 @@ impl Opener for Shelf {
         self.open(path)
     }
 
-    fn is_plain(&self, _path: &str) -> bool {
-        self.size.is_some()
-    }
-
-    fn stamp_at(&self, path: &str) -> Option<Stamp> {
-        if self.is_plain(path) {
-            Some(written_in(0))
-        } else {
-            None
-        }
-    }
-}
-
-impl Sizes for Shelf {
-    ghost has_size = { λ _ _. ⊤ };
-
-    fn size(&self, _path: &str) -> Option<u64> {
-        self.size
+    fn look(&self, _path: &str) -> Option<Stamp> {
+        self.size.map(sized)
     }
 }
 
@@ -325,7 +299,7 @@ impl Sizes for Shelf {
 // opens work, how many reads fail behind the text, and whether the files are plain ones.
 pub(crate) type Again = (&'static [u8], &'static [u8], u32, u32, bool);
 
-// Files that all have one text, and others when they are opened again. How often a stamp was asked for or an open gave one tells
+// Files that all have one text, and others when they are opened again. How often a look found a stamp or an open gave one tells
 // from when on it is another.
 #[derive(Drop)]
 pub(crate) struct Changing {
@@ -411,21 +385,8 @@ impl Opener for Changing {
         })
     }
 
-    fn is_plain(&self, _path: &str) -> bool {
-        self.are_plain
-    }
-
-    fn stamp_at(&self, _path: &str) -> Option<Stamp> {
+    fn look(&self, _path: &str) -> Option<Stamp> {
         self.next_stamp()
-    }
-}
-
-// How many bytes they have isn't said.
-impl Sizes for Changing {
-    ghost has_size = { λ _ _. ⊤ };
-
-    fn size(&self, _path: &str) -> Option<u64> {
-        None
     }
 }
 
@@ -490,20 +451,7 @@ impl<'a> Opener for Endless<'a> {
         Ok(self.opened(Some(self.given)))
     }
 
-    fn is_plain(&self, _path: &str) -> bool {
-        true
-    }
-
-    fn stamp_at(&self, _path: &str) -> Option<Stamp> {
+    fn look(&self, _path: &str) -> Option<Stamp> {
         Some(written_in(0))
-    }
-}
-
-// How many bytes they have isn't said.
-impl Sizes for Endless<'_> {
-    ghost has_size = { λ _ _. ⊤ };
-
-    fn size(&self, _path: &str) -> Option<u64> {
-        None
     }
 }

@@ -1,11 +1,11 @@
 use Rattle.std.proofs.Common.{map, refl, sym, subst, arith}
 use Rattle.std.proofs.KnownBytes.{Appends-nil}
 use Rattle.aero_model.specs.CallCounts.{Seen, seen_by}
-use Rattle.aero_batch.specs.declared.outcome.Cause.{Cause}
-use Rattle.aero_batch.specs.declared.outcome.Cause.TheVariants.{Memory}
-use Rattle.aero_batch.specs.declared.told.Told.{Told}
+use Rattle.aero_telling.specs.declared.cause.Cause.{Cause}
+use Rattle.aero_telling.specs.declared.cause.Cause.TheVariants.{Memory}
+use Rattle.aero_telling.specs.declared.told.Told.{Told}
 use Rattle.std.specs.Prelude.{Some}
-use Rattle.aero_batch.specs.Founds.{sighted, WasTold}
+use Rattle.aero_telling.specs.Founds.{sighted, WasTold}
 use Rattle.aero_batch.specs.Holding.{Stands}
 use Rattle.aero_batch.proofs.Stands.{step_stands, memory_stops}
 use Rattle.aero_batch.proofs.run.advance.Goals as goal

@@ -1,7 +1,7 @@
 use Rattle.std.proofs.Common.{ap, map}
 use Rattle.aero_model.specs.CallCounts.{seen_by}
-use Rattle.aero_batch.specs.Founds.{sighted}
-use Rattle.aero_batch.proofs.Stands.{summed_so}
+use Rattle.aero_telling.specs.Founds.{sighted}
+use Rattle.aero_telling.proofs.Tellings.{summed_so}
 use Rattle.aero_batch.proofs.run.run.Goals as goal
 use Rattle.aero_intake.specs.Source.{counted}
 use Rattle.aero_intake.specs.PlanTerms.{options_in, terms_of}

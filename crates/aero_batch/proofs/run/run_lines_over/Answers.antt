@@ -1,7 +1,7 @@
 use Rattle.std.proofs.Common.{map}
 use Rattle.aero_model.specs.CallCounts.{seen_by}
-use Rattle.aero_batch.specs.Founds.{sighted}
-use Rattle.aero_batch.proofs.Stands.{refused_at_once}
+use Rattle.aero_telling.specs.Founds.{sighted}
+use Rattle.aero_telling.proofs.Tellings.{refused_at_once}
 use Rattle.aero_batch.proofs.run.run_lines_over.Goals as goal
 use Rattle.aero_intake.specs.PlanTerms.{terms_of}
 

@@ -1,7 +1,7 @@
 use Rattle.std.proofs.Common.{map, sym, subst, ◌∙◌}
 use Rattle.std.proofs.lemmas.List.{length-map}
 use Rattle.aero_model.specs.CallCounts.{seen_by}
-use Rattle.aero_batch.specs.Founds.{sighted}
+use Rattle.aero_telling.specs.Founds.{sighted}
 use Rattle.aero_batch.specs.Holding.{IsBegun}
 use Rattle.aero_batch.proofs.Stands.{all_done, begun_stands}
 use Rattle.aero_batch.proofs.run.run_on.Goals as goal

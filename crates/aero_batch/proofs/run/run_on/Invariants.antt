@@ -1,7 +1,7 @@
 -- What holds between two steps.
 use Rattle.std.proofs.Common.{map}
 use Rattle.aero_model.specs.CallCounts.{seen_by}
-use Rattle.aero_batch.specs.Founds.{sighted}
+use Rattle.aero_telling.specs.Founds.{sighted}
 use Rattle.aero_batch.specs.Runs.{StandsBy}
 use Rattle.aero_batch.proofs.run.run_on.Given as goal
 

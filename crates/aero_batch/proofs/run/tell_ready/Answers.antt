@@ -2,7 +2,7 @@ use Rattle.std.proofs.Common.{◌≡◌, ◌<◌, length, map, get_or, refl, sub
 use Rattle.std.proofs.lemmas.Option.{slice_get_read}
 use Rattle.aero_model.specs.CallCounts.{seen_by}
 use Rattle.aero_report.specs.declared.form.Form.{Form}
-use Rattle.aero_batch.specs.Founds.{sighted}
+use Rattle.aero_telling.specs.Founds.{sighted}
 use Rattle.aero_batch.specs.Telling.{TellsNext}
 use Rattle.aero_batch.proofs.Readers.{name_there}
 use Rattle.aero_batch.proofs.Stands.{telling}

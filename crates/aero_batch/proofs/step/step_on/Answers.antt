@@ -1,6 +1,6 @@
 use Rattle.std.proofs.Common.{rules, ◌<◌, length, sym, subst, inr}
 use Rattle.std.proofs.lemmas.List.{length-map}
-use Rattle.aero_batch.specs.Founds.{sighted}
+use Rattle.aero_telling.specs.Founds.{sighted}
 use Rattle.std.specs.Prelude.{slice_index_or}
 use Rattle.std.proofs.lemmas.Option.{slice_get-get_or}
 use Rattle.std.proofs.lemmas.Result.{on_ok_weaker}

@@ -1,6 +1,6 @@
 use Rattle.std.proofs.Common.{List, map, sym, subst}
-use Rattle.aero_batch.specs.Founds.{sighted}
-use Rattle.aero_batch.proofs.Stands.{refused_at_once}
+use Rattle.aero_telling.specs.Founds.{sighted}
+use Rattle.aero_telling.proofs.Tellings.{refused_at_once}
 use Rattle.aero_intake.specs.PlanTerms.{terms_of}
 use Rattle.aero_lanes.proofs.Seated.{waiting_seated}
 use Rattle.aero_lanes.specs.Seats.{AreSeated}

@@ -1,5 +1,5 @@
 use Rattle.std.proofs.Common.{sym, subst}
-use Rattle.aero_batch.specs.declared.told.Told.{Told}
+use Rattle.aero_telling.specs.declared.told.Told.{Told}
 use Rattle.aero_intake.specs.PlanTerms.{terms_of}
 use Rattle.aero_lanes.proofs.Tellings.{stands_on}
 use Rattle.aero_lanes.specs.Tellings.{StandsSo}

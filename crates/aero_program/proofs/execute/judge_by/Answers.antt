@@ -1,12 +1,13 @@
-use Rattle.std.proofs.lemmas.List.{length-map}
-use Rattle.std.proofs.Common.{Bool, arith, ◌≡◌, ◌≤◌, ◌^◌, ◌∙◌, ◌+◌, ap, sym, subst, inl, inr, map, refl, if◌then◌else◌, [], ◌++◌, List, ℕ, Option, None}
+use Rattle.std.specs.Vec.{with_items}
+use Rattle.std.proofs.lemmas.List.{length-map, with_items_is}
+use Rattle.std.proofs.Common.{Bool, Bor, length, arith, ◌≡◌, ◌≤◌, ◌^◌, ◌∙◌, ◌+◌, ap, sym, subst, inl, inr, map, refl, if◌then◌else◌, [], ◌++◌, List, ℕ, Option, None}
 use Rattle.aero_model.specs.CallCounts.{seen_by}
 use Rattle.aero_model.specs.Exempt.{Listed}
 use Rattle.aero_model.specs.declared.verdict.Ending.{Ending}
 use Rattle.std.specs.IoError.{error_kind}
 use Rattle.aero_model.specs.Terms.{asking}
-use Rattle.aero_batch.specs.Founds.{sighted, whose}
-use Rattle.aero_batch.proofs.Stands.{summed}
+use Rattle.aero_telling.specs.Founds.{sighted, whose}
+use Rattle.aero_telling.proofs.Tellings.{summed}
 use Rattle.aero_intake.specs.PlanTerms.{terms_of}
 use Rattle.aero_report.specs.Asked.{note_of}
 use Rattle.aero_report.specs.Forms.{summary_line_in}
@@ -16,6 +17,7 @@ use Rattle.aero_program.proofs.Unused.{found_labels, lines_told, summed_beside, 
 use Rattle.aero_program.specs.declared.command.Sources.{Sources}
 use Rattle.aero_program.specs.Executed.{Ends, TellsUnlisted, options_told}
 use Rattle.aero_program.specs.Command.{are_words, count_named, list_path, listed_by}
+use Rattle.aero_program.specs.Sizes.{name_and_reader}
 use Rattle.aero_program.specs.Sightings.{AreNames, AreUnlisted, IsLeftBeside, IsLeftUnlisted, source_sightings}
 use Rattle.aero_program.specs.Retries.{seen_within}
 use Rattle.std.specs.Prelude.{IfSome, option_map, unwrap_or}
@@ -28,6 +30,7 @@ use Rattle.aero_program.proofs.Judged.{judged}
 use Rattle.aero_program.proofs.Leaving.{left_by, rest_kept, rest_none}
 use Rattle.aero_program.proofs.Owning.{are_own, noted_by}
 use Rattle.aero_program.proofs.Sending.{traced_row_send}
+use Rattle.aero_program.proofs.Sizing.{same_sighted}
 use denote.Exit
 use denote.Param.{param}
 use denote.Param.Send.{arg_send, param_send, sendable}
@@ -46,7 +49,13 @@ returns g c =
     let listed : Listed = unwrap_or c.args.chosen.set (listed_by config.except.items config.only.items) in
     let labels : List (List ℕ) = listed.labels in
     let looked_for : c.shared_except.result.now.labels ≡ labels = ap (λ (l : Listed). l.labels) (c.shared_except.ensures ∙ c.in-Ok.ensures.except) in
-    let seen = c.in-Ok-sources_of.ensures.sighted ∙ ap (λ (s : Sources). source_sightings known c.shared_except.result.now.labels s given names) asked_is
+    let gathered = c.in-Ok-sources_of.gathered.sources in
+    let looked_at = c.look_at_all-extent.new.sources in
+    let as_many : length looked_at ≡ gathered.len = omega (arith, c.look_at_all-extent.auto.sources, c.deref_mut.ensures.len) in
+    let sight = sight_of g.S.Read.remaining (λ (f : Bor g.row.F.Denot). g.F.Opener.known f.now) g.F.File.Read.remaining in
+    let sources = (with_items gathered looked_at).items in
+    let seen = same_sighted sources gathered.items sight (ap (map name_and_reader) (with_items_is gathered looked_at as_many) ∙ c.look_at_all-extent.ensures.kept ∙ ap (map name_and_reader) c.deref_mut.ensures.value)
+    ∙ c.in-Ok-sources_of.ensures.sighted ∙ ap (λ (s : Sources). source_sightings known c.shared_except.result.now.labels s given names) asked_is
     ∙ ap (λ ls. source_sightings known ls config.files given names) looked_for in
     let words : Bool = are_words config.files in
     let on : Bool = config.terminals.errors in
@@ -54,7 +63,6 @@ returns g c =
     let form = c.in-Ok.plan.form in
     let report = c.run_all-report.result.0 in
     let left = c.run_all-report.result.1.items in
-    let sight = sight_of g.S.Read.remaining (λ f. g.F.Opener.known f.now) g.F.File.Read.remaining in
     let unused = c.unused_labels-unused.result in
     let cause = c.sum_up_with-cause.result in
     let before = shown_by g.O.Write.contents c.args.output.now in
@@ -64,18 +72,18 @@ returns g c =
     let noted = noted_of_all input_of unused_in words left noted_endings report.told.notables.items in
     let labels_are : c.labels.result.now ≡ labels = c.labels.ensures ∙ ap (λ (l : Listed). l.labels) (c.except.ensures ∙ c.in-Ok.ensures.except) in
     let listed_are : c.told_of-labels.result.now ≡ (if all_read report.cause report.told.endings.items then labels else []) =
-    c.told_of-labels.ensures ∙ ap (λ b. if b then c.labels.result.now else []) (c.all_read.ensures ∙ ap (all_read report.cause) c.deref-3.ensures.value)
+    c.told_of-labels.ensures ∙ ap (λ b. if b then c.labels.result.now else []) (c.all_read.ensures ∙ ap (all_read report.cause) c.deref.ensures.value)
     ∙ ap (λ ls. if all_read report.cause report.told.endings.items then ls else []) labels_are in
     let found = found_labels input_of unused_in unused (λ u. map (λ label. label.now) u.items) report.cause report.told.endings.items words left noted_endings report.told.notables.items c.told_of-labels.result.now labels
-    (subst (λ l. IfSome unused (λ u. map (λ label. label.now) u.items ≡ missing_in_each (map (λ s. unused_in s.reader) l) c.told_of-labels.result.now)) c.deref-4.ensures.value c.unused_labels-unused.ensures) listed_are in
+    (subst (λ l. IfSome unused (λ u. map (λ label. label.now) u.items ≡ missing_in_each (map (λ s. unused_in s.reader) l) c.told_of-labels.result.now)) c.deref-2.ensures.value c.unused_labels-unused.ensures) listed_are in
     let told = told_as input_of unused_in g.F.Opener.holds (λ ns. map note_of ns.items) c.are_words.result words left noted_endings report.told.notables.items
     (c.are_words.ensures ∙ ap are_words asked_is) c.all_notes-notes.result
-    (subst (λ l. IfSome c.all_notes-notes.result (λ ns. AreNotes g.F.Opener.holds (noted_of_all input_of unused_in c.are_words.result l noted_endings report.told.notables.items) (map note_of ns.items))) c.deref-5.ensures.value c.all_notes-notes.ensures) in
+    (subst (λ l. IfSome c.all_notes-notes.result (λ ns. AreNotes g.F.Opener.holds (noted_of_all input_of unused_in c.are_words.result l noted_endings report.told.notables.items) (map note_of ns.items))) c.deref-3.ensures.value c.all_notes-notes.ensures) in
     let notes : List Note = notes_on told.remarks in
     let text : List (List ℕ) → List Note → List ℕ = λ ls ns. summary_line_in form (options_told config terms ls ns) report.told.counts in
     let sums = summed_beside unused (λ u. map (λ label. label.now) u.items) c.all_notes-notes.result (λ ns. map note_of ns.items) text (labels_told None report.told.endings.items noted labels) notes
     report.cause cause mid after found told.told c.sum_up_with-cause.ensures.summed in
-    let run = summed terms form (summary_line_in form (options_told config terms (labels_told None report.told.endings.items noted labels) notes)) (map (sighted sight) c.in-Ok-sources_of.gathered.sources.items) (map (sighted sight) left)
+    let run = summed terms form (summary_line_in form (options_told config terms (labels_told None report.told.endings.items noted labels) notes)) (map (sighted sight) sources) (map (sighted sight) left)
     before.writer mid after report.told.endings.items report.told.notables.items report.told.counts report.cause cause c.run_all-report.ensures.told sums in
     let labels_are_told = told_labels input_of unused_in unused (λ u. u.items) (λ label. label.now) c.told_after-told.result.now report.cause cause report.told.endings.items words left noted_endings report.told.notables.items labels
     found c.sum_up_with-cause.ensures.known c.sum_up_with-cause.ensures.whole c.told_after-told.ensures.whole c.told_after-told.ensures.stopped in
@@ -83,7 +91,7 @@ returns g c =
     let lines = lines_told c.all_lines-lines.result (λ text. text.items) c.all_notes-notes.result (λ ns. map note_of ns.items) lines_of notes
     c.all_lines-lines.ensures.known c.all_lines-lines.ensures.lines told.told in
     inl (judged input_of unused_in sight known g.F.Opener.can_fail g.F.Opener.holds config listed given _
-    c.in-Ok.plan.terms.rules.limits names left (map (sighted sight) c.in-Ok-sources_of.gathered.sources.items)
+    c.in-Ok.plan.terms.rules.limits names left (map (sighted sight) sources)
     before
     (record { writer = after; unflushed = c.args.output.now.unflushed.number })
     (shown_by g.O.Write.contents c.flush-flushed.new.self)

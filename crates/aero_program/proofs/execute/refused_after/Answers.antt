@@ -1,6 +1,6 @@
 use Rattle.std.proofs.Common.{Some, refl, subst, sym}
-use Rattle.aero_batch.specs.declared.outcome.Cause.TheVariants.{Memory}
-use Rattle.aero_batch.specs.Telling.{SumsUp}
+use Rattle.aero_telling.specs.declared.cause.Cause.TheVariants.{Memory}
+use Rattle.aero_telling.specs.Telling.{SumsUp}
 use Rattle.aero_program.proofs.Unused.{takes_nothing}
 use Rattle.aero_program.proofs.execute.refused_after.Goals as goal
 

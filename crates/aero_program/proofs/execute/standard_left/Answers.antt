@@ -1,5 +1,5 @@
 use Rattle.std.proofs.Common.{◌≡◌, ◌∙◌, ap, subst, length, option_map, Some, arith}
-use Rattle.aero_batch.specs.Founds.{Sighted, sighted}
+use Rattle.aero_telling.specs.Founds.{Sighted, sighted}
 use Rattle.aero_intake.specs.Source.{Origin, Stream, origin_in}
 use Rattle.aero_program.specs.Executed.{seen_in}
 use Rattle.aero_program.specs.Inputs.{IsStandardOf, standing_of}

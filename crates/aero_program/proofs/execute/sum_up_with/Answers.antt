@@ -1,7 +1,7 @@
 use Rattle.std.proofs.Common.{◌≡◌, ◌∙◌, List, ℕ, ap, map, subst}
 use Rattle.std.specs.Prelude.{IfSome}
 use Rattle.aero_model.specs.CallCounts.{seen_by}
-use Rattle.aero_batch.specs.Telling.{SumsUp}
+use Rattle.aero_telling.specs.Telling.{SumsUp}
 use Rattle.aero_intake.specs.PlanTerms.{options_with, terms_of}
 use Rattle.aero_report.specs.Asked.{note_of}
 use Rattle.aero_report.specs.Forms.{summary_line_in}

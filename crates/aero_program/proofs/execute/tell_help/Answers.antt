@@ -1,7 +1,7 @@
 use Rattle.std.proofs.Common.{◌∙◌, ◌+◌, ap, sym, subst, refl, if◌then◌else◌}
 use Rattle.std.specs.IoError.{error_kind}
 use Rattle.aero_model.specs.CallCounts.{seen_by}
-use Rattle.aero_batch.specs.Founds.{Took}
+use Rattle.aero_telling.specs.Founds.{Took}
 use Rattle.aero_program.specs.Executed.{EndsAs, Fails}
 use Rattle.aero_program.specs.Failure.{cut_failure}
 use Rattle.aero_program.specs.Faults.{fault_of}

@@ -1,5 +1,5 @@
 use Rattle.std.proofs.Common.{◌≡◌, ◌∙◌, ◌++◌, ap, ap₂, Bool, List, ℕ, Option, bytes_eq, map, subst, take}
-use Rattle.aero_batch.specs.declared.outcome.FaultyLine.{FaultyLine}
+use Rattle.aero_telling.specs.declared.notable.FaultyLine.{FaultyLine}
 use Rattle.aero_program.specs.Traces.{input_of}
 use Rattle.aero_report.specs.Asked.{note_of}
 use Rattle.aero_program.specs.declared.reason.Reason.{Reason}

@@ -2,7 +2,7 @@ use Rattle.std.proofs.Common.{◌≡◌, ◌∙◌, [], ap, sym, subst, arith, B
 use Rattle.std.specs.Prelude.{slice_get}
 use Rattle.std.proofs.lemmas.List.{length-take-le, take_all}
 use Rattle.std.proofs.lemmas.Option.{slice_get_read}
-use Rattle.aero_batch.specs.declared.outcome.Notable.{Notable}
+use Rattle.aero_telling.specs.declared.notable.Notable.{Notable}
 use Rattle.aero_report.specs.Asked.{note_of}
 use Rattle.aero_program.specs.Notes.{AreNotes, GrowsBy, Noted, noted_of, noted_of_all, was_too_large, notable_told}
 use Rattle.aero_program.specs.Traces.{input_of, unused_in}

@@ -1,7 +1,7 @@
 use Rattle.std.proofs.Common.{◌≡◌, map, take, None}
 use Rattle.std.specs.Prelude.{string_bytes}
 use Rattle.aero_program.specs.Traces.{input_of, sight_of}
-use Rattle.aero_batch.specs.Founds.{sighted}
+use Rattle.aero_telling.specs.Founds.{sighted}
 use Rattle.aero_program.specs.Inputs.{standing_of, reason_of, unopened}
 use Rattle.aero_program.specs.Sightings.{file_made, sightings}
 use Rattle.aero_program.proofs.sources.add_files.Given as goal

@@ -1,6 +1,6 @@
 use Rattle.std.proofs.Common.{◌≡◌, ◌++◌, length, map}
 use Rattle.aero_program.specs.Traces.{input_of, sight_of}
-use Rattle.aero_batch.specs.Founds.{sighted}
+use Rattle.aero_telling.specs.Founds.{sighted}
 use Rattle.aero_program.specs.Inputs.{reason_of, standing_of}
 use Rattle.aero_program.specs.Listing.{names_in}
 use Rattle.aero_program.specs.Sightings.{listed_made, listed_reason, listed_standing, sightings}

@@ -1,15 +1,13 @@
-use Rattle.std.proofs.Common.{◌≡◌, ◌∙◌, false, sym, ap, subst}
-use Rattle.std.specs.Prelude.{is_some}
+use Rattle.std.proofs.Common.{◌≡◌, ◌∙◌, false, sym, subst}
 use Rattle.aero_model.specs.Lines.{EndsLine}
 use Rattle.aero_feed.specs.Feeding.{Feeding, IsOpenText}
-use Rattle.aero_verdict.specs.declared.judge.Judge.{Judge}
 use Rattle.aero_verdict.specs.Judging.{judging_of}
 use Rattle.aero_feed.proofs.Texts.{told_right}
 use Rattle.aero_feed.proofs.text_monitor.TextMonitor.is_certain.Goals as goal
 
 pub returns-clause-going_on : goal.returns-clause-going_on
 returns-clause-going_on c =
-    let m = judging_of c.self.inside.judge.value in
+    let m = judging_of c.self.inside.judge in
     subst (λ (v : Feeding). v.is_spent ≡ false → c.is_certain.result ≡ false → EndsLine v.text → IsOpenText v.text v.rules) c.self.view_is (λ unspent off ends.
     told_right c.self.inside.text.bytes c.self.inside.cutter m m.certain (c.self.invariant.stands unspent)
-    (ap (λ (j : Judge). is_some (judging_of j).certain) (sym c.deref.ensures) ∙ (sym c.is_certain.ensures.told ∙ off)) ends)
+    (sym c.is_certain.ensures.told ∙ off) ends)

@@ -8,11 +8,11 @@ use Rattle.aero_feed.proofs.text_monitor.TextMonitor.new.Goals as goal
 pub invariant_of-result : goal.invariant_of-result
 invariant_of-result c =
     let terms = to_the_end c.args.terms in
-    let same : judging_of c.in_ok-judge.judge.value ≡ nothing_judged terms = ap judging_of c.in_ok-judge.ensures.ok ∙ c.new.ensures in
+    let same : judging_of c.in_ok-judge.judge ≡ nothing_judged terms = c.in_ok-judge.ensures in
     record {
       labels = sym (ap (λ (j : Judging). j.terms.rules.labels) same);
       stands = λ _.
-          subst (λ (j : Judging). StandsAt c.none.result.bytes c.new-3.result j j.certain) (sym same)
-          (subst (λ t. StandsAt t c.new-3.result (nothing_judged terms) (nothing_judged terms).certain) (sym c.none.ensures)
-          (subst (λ k. StandsAt [] k (nothing_judged terms) (nothing_judged terms).certain) (sym c.new-3.ensures) (stands_first terms)));
+          subst (λ (j : Judging). StandsAt c.none.result.bytes c.new-2.result j j.certain) (sym same)
+          (subst (λ t. StandsAt t c.new-2.result (nothing_judged terms) (nothing_judged terms).certain) (sym c.none.ensures)
+          (subst (λ k. StandsAt [] k (nothing_judged terms) (nothing_judged terms).certain) (sym c.new-2.ensures) (stands_first terms)));
     }

@@ -2,15 +2,14 @@ use Rattle.std.proofs.Common.{◌≡◌, true, false, refl, sym, ◌∙◌, ◌+
 use Rattle.std.specs.Prelude.{is_some}
 use Rattle.aero_model.specs.Terms.{Terms}
 use Rattle.aero_feed.specs.Reads.{StandsAt}
-use Rattle.aero_verdict.specs.declared.judge.Judge.{Judge}
 use Rattle.aero_verdict.specs.Judging.{judging_of}
 use Rattle.aero_feed.proofs.Texts.{stands_sure, stands_more, none_of, on_ok}
 use Rattle.aero_feed.proofs.text_monitor.TextMonitor.take.Goals as goal
 
 pub invariant_of-self-then-is_certain : goal.invariant_of-self-then-is_certain
 invariant_of-self-then-is_certain c =
-    let m = judging_of c.self.inside.judge.value in
-    let sure : is_some m.certain ≡ true = ap (λ (j : Judge). is_some (judging_of j).certain) (sym c.deref.ensures) ∙ (sym c.is_certain.ensures.told ∙ c.if-is_certain.true) in
+    let m = judging_of c.self.inside.judge in
+    let sure : is_some m.certain ≡ true = sym c.is_certain.ensures.told ∙ c.if-is_certain.true in
     record {
       labels = c.self.invariant.labels;
       stands = λ unspent. subst (λ t. StandsAt t c.self.inside.cutter m m.certain) (sym c.with-self-inside.ensures)
@@ -19,19 +18,18 @@ invariant_of-self-then-is_certain c =
 
 pub invariant_of-self-2 : goal.invariant_of-self-2
 invariant_of-self-2 c =
-    let was = judging_of c.deref_mut.result.now in
-    let same = sym c.deref_mut.ensures.value in
+    let was = judging_of c.self.inside.judge in
     let is = judging_of c.judge_piece-judged.new.judge in
     let r = c.judge_piece-judged.result in
     let e = c.judge_piece-judged.ensures in
     let b = c.is_err-self-inside.result in
     let value = c.is_err-self-inside.ensures.value in
-    let off : is_some was.certain ≡ false = ap (λ (j : Judge). is_some (judging_of j).certain) (c.deref_mut.ensures.value ∙ sym c.deref.ensures) ∙ (sym c.is_certain.ensures.told ∙ c.if-is_certain.false) in
+    let off : is_some was.certain ≡ false = sym c.is_certain.ensures.told ∙ c.if-is_certain.false in
     record {
-      labels = c.self.invariant.labels ∙ ap (λ (j : Judge). (judging_of j).terms.rules.labels) same ∙ sym (ap (λ (t : Terms). t.rules.labels) e.terms);
+      labels = c.self.invariant.labels ∙ sym (ap (λ (t : Terms). t.rules.labels) e.terms);
       stands = λ unspent.
           subst (λ t. StandsAt t c.judge_piece-judged.new.cutter is is.certain) (sym c.with-self-inside.ensures)
           (subst (λ k. StandsAt (c.self.inside.text.bytes ++ c.args.piece.now) k is is.certain) (sym (on_ok r _ b value unspent e.cut))
-          (stands_more c.self.inside.text.bytes c.args.piece.now c.self.inside.cutter was is is.certain (none_of was.certain off) (subst (λ (j : Judge). StandsAt c.self.inside.text.bytes c.self.inside.cutter (judging_of j) (judging_of j).certain) same (c.self.invariant.stands c.if-self.false))
+          (stands_more c.self.inside.text.bytes c.args.piece.now c.self.inside.cutter was is is.certain (none_of was.certain off) (c.self.invariant.stands c.if-self.false)
           e.terms (on_ok r _ b value unspent e.parts) e.certain (on_ok r _ b value unspent e.going_on) refl));
     }

@@ -1,4 +1,4 @@
-use Rattle.std.proofs.Common.{◌≡◌, ◌≤◌, Vec, Global, ◌∙◌, ap, subst}
+use Rattle.std.proofs.Common.{Vec, Global, ◌∙◌, ap, subst}
 use Rattle.std.specs.Prelude.{IfOk, option_map}
 use Rattle.aero_engine.specs.Given.{words_of}
 use Rattle.aero_model.specs.declared.verdict.Step.{Step}
