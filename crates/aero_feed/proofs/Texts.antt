@@ -2,7 +2,7 @@
 use Rattle.std.proofs.Common.{◌≡◌, ℕ, suc, Bool, true, false, cond, List, [], ◌∷◌, ◌++◌, map, Option, Some, None, refl, sym, ◌∙◌, ap, subst, true≢false, ◌⊎◌, inl, inr, arith, append_assoc}
 use Rattle.std.proofs.lemmas.Bool.{cases_Bool, ltb-true}
 use Rattle.std.proofs.lemmas.List.{append-nil, map-append}
-use Rattle.std.specs.Prelude.{option_to_list, option_map, is_some, nat_lt, Result, Ok, Err, IfSome, IfOk, OnOk}
+use Rattle.std.specs.Prelude.{option_to_list, option_map, is_some, nat_lt, Result, Ok, Err, IfSome, OnOk}
 use Rattle.std.specs.Result.{is_err}
 use Rattle.std.specs.List.{concat}
 use Rattle.aero_model.specs.declared.verdict.Cycle.{Cycle}
@@ -196,10 +196,6 @@ none_of (Some x) off = absurd (true≢false off)
 pub on_ok : {A E : Type 0} (r : Result A E) (P : Type 0) (b : Bool) → b ≡ is_err r → b ≡ false → OnOk r P → P
 on_ok (Ok x) P b is off on = on
 on_ok (Err e) P b is off on = absurd (true≢false (sym is ∙ off))
-
-pub if_ok : {A E : Type 0} (r : Result A E) (P Q : A → Type 0) → ((x : A) → P x → Q x) → IfOk r P → IfOk r Q
-if_ok (Ok x) P Q weaker is = weaker x is
-if_ok (Err e) P Q weaker is = is
 
 -- what was certain stays so over two steps
 pub stays_twice : (first second third : Option Verdict) → IfSome first (λ verdict. second ≡ first) → IfSome second (λ verdict. third ≡ second) → IfSome first (λ verdict. third ≡ first)

@@ -28,6 +28,7 @@ const FEW_BYTES: usize = 10;
 ///
 /// An `AllocError` says that memory was refused, to the list of events, a name or a label. So the block
 /// has an event: one without, or with none before its first fault, isn't refused.
+#[inline(always)]
 pub fn parse_block(alloc: Global, bytes: &[u8]) -> Result<Parsed, AllocError>
     requires { length bytes.now ≤ 2 ^ 30 }
     ensures reading { IfOk result (λ parsed. parsed ≡ reading_of bytes.now) }

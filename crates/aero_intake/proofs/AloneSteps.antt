@@ -1,6 +1,6 @@
 -- A source that one thread reads and judges, step by step.
 use Rattle.std.proofs.Common.{◌≡◌, ℕ, ◌≤◌, ◌⊎◌, true, false, List, [], ◌∷◌, ◌++◌, map, length, Option, Some, None, refl, sym, ◌∙◌, ap, subst, append_assoc, inl, inr}
-use Rattle.std.specs.Prelude.{option_to_list, Result, Ok, Err, OnOk, IfOk}
+use Rattle.std.specs.Prelude.{option_to_list}
 use Rattle.std.specs.List.{concat}
 use Rattle.std.proofs.lemmas.Grind.{merely}
 use Rattle.std.proofs.lemmas.List.{append-nil, map-append}
@@ -22,14 +22,6 @@ use Rattle.aero_intake.proofs.AsFar.{found_as_far}
 use Rattle.aero_intake.proofs.Taken.{nothing_is_taken, piece_is_held, held_is_cut, held_is_passed, cut_bytes, concat-more, chunks_with_last, nothing_has_come}
 use Rattle.aero_intake.proofs.Taken.{more_has_come, not_stopped, source_was_read, source_was_stopped}
 use Rattle.aero_intake.proofs.Tracked.{enough_asked, alike_dropped, alike_with_more, begin_alike, text_found}
-
-pub then_ok : {A E : Type 0} (r : Result A E) {P Q : Type 0} → (P → Q) → OnOk r P → OnOk r Q
-then_ok (Ok x) f is = f is
-then_ok (Err e) f is = tt
-
-pub each_ok : {A E : Type 0} (r : Result A E) {P Q : A → Type 0} → ((x : A) → P x → Q x) → IfOk r P → IfOk r Q
-each_ok (Ok x) f is = f x is
-each_ok (Err e) f is = tt
 
 -- nothing was read
 pub begun_alone : (terms : Terms) (at : Sight) (i : Taking) (j : Judging) → i ≡ nothing_taken → j ≡ nothing_judged (to_the_end terms) →

@@ -1,8 +1,9 @@
 use Rattle.std.proofs.Common.{◌≡◌, Some, sym, subst}
+use Rattle.std.proofs.lemmas.Result.{IfOk-weaker}
 use Rattle.aero_model.specs.declared.verdict.Ending.TheVariants.{Stopped, Whole}
 use Rattle.aero_intake.specs.Alone.{IsFoundIn, StandsAlone, found_so}
 use Rattle.aero_verdict.specs.Judging.{judging_of}
-use Rattle.aero_intake.proofs.AloneSteps.{each_ok, found_stopped}
+use Rattle.aero_intake.proofs.AloneSteps.{found_stopped}
 use Rattle.aero_intake.proofs.alone.SoFar.finding.Goals as goal
 
 pub returns-in-Stopped : goal.returns-in-Stopped
@@ -10,7 +11,7 @@ returns-in-Stopped c =
     let terms = c.args.terms.now in
     let s = c.args.self in
     let is : c.args.ending ≡ Stopped = c.in-Stopped.is in
-    each_ok c.finding_as_far.result (λ finding found before now stands.
+    IfOk-weaker c.finding_as_far.result _ _ (λ finding found before now stands.
     subst (λ e. IsFoundIn terms before now (found_so s.intake.count e finding)) (sym is)
     (found_stopped terms before now s.intake (judging_of s.judge) finding c.requires
     (subst (λ e. StandsAlone terms before now (Some e) s.intake (judging_of s.judge)) is stands) found)) c.finding_as_far.ensures
@@ -20,6 +21,6 @@ returns-in-Whole c =
     let terms = c.args.terms.now in
     let s = c.args.self in
     let is : c.args.ending ≡ Whole = c.in-Whole.is in
-    each_ok c.finding_of_all.result (λ finding found before now stands.
+    IfOk-weaker c.finding_of_all.result _ _ (λ finding found before now stands.
     subst (λ e. IsFoundIn terms before now (found_so s.intake.count e finding)) (sym is)
     (found before now (subst (λ e. StandsAlone terms before now (Some e) s.intake (judging_of s.judge)) is stands))) c.finding_of_all.ensures

@@ -1,10 +1,11 @@
 use Rattle.std.proofs.Common.{◌∙◌, ◌++◌, sym, ap, subst, map}
 use Rattle.std.specs.Prelude.{option_to_list}
+use Rattle.std.proofs.lemmas.Result.{on_ok_weaker}
 use Rattle.aero_grammar.specs.Reading.{reading_of}
 use Rattle.aero_intake.specs.Alone.{StandsAlone}
 use Rattle.aero_intake.specs.Intake.{Taking}
 use Rattle.aero_verdict.specs.Judging.{judging_of}
-use Rattle.aero_intake.proofs.AloneSteps.{then_ok, cut_stands, pass_stands}
+use Rattle.aero_intake.proofs.AloneSteps.{cut_stands, pass_stands}
 use Rattle.aero_intake.proofs.alone.SoFar.judge_held.Goals as goal
 
 pub returns-then-has_enough-clause-stands : goal.returns-then-has_enough-clause-stands
@@ -21,7 +22,7 @@ returns-clause-stands c =
     let terms = c.args.terms.now in
     let j = judging_of s.judge in
     let k = judging_of c.judge_chunk.new.self.judge in
-    then_ok c.judge_chunk.result (λ more before now ended stands.
+    on_ok_weaker c.judge_chunk.result (λ more before now ended stands.
     subst (λ (i : Taking). StandsAlone terms before now ended i k) (sym (c.judge_chunk.ensures.intake ∙ c.in_ok-chunk.ensures.after))
     (cut_stands terms before now ended s.intake j k (c.has_enough.ensures.none_passed c.if-has_enough.false)
     (more ∙ ap (λ o. j.parts ++ map reading_of (option_to_list o)) c.in_ok-chunk.ensures.block) stands)) c.judge_chunk.ensures.parts
