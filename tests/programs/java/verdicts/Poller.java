@@ -34,5 +34,8 @@ public class Poller extends Thread {
     public static void main(String[] a) throws Exception {
         Thread.sleep(100);
         System.out.println("polled " + (polls > 0));
+        // (a poll that is open where the log ends would leave the log without a verdict)
+        INSTANCE.interrupt();
+        INSTANCE.join();
     }
 }
