@@ -1,9 +1,10 @@
 -- The reading of a text, a line at a time.
-use Rattle.std.proofs.Common.{◌≡◌, ◌<◌, ◌≤◌, ◌+◌, ◌==◌, ℕ, suc, true, false, List, [], ◌∷◌, ◌++◌, length, take, drop, get_or, map, Some, None, Result, Ok, Err, OnErr, refl, true≢false, sym, ◌∙◌, ap, arith, length-append}
+use Rattle.std.proofs.Common.{◌≡◌, ◌<◌, ◌≤◌, ◌+◌, ◌==◌, ℕ, suc, Bool, true, false, not, cond, eqb, List, [], ◌∷◌, ◌++◌, length, take, drop, get_or, map, Some, None, Result, Ok, Err, OnErr, refl, true≢false, sym, ◌∙◌, ap, ap₂, arith, length-append}
 use Rattle.std.specs.List.{position_or_len}
-use Rattle.std.proofs.lemmas.List.{append-nil, get_or-take}
+use Rattle.std.proofs.lemmas.List.{append-nil, get_or-take, take-take, take-append-drop, drop-take, length-take-le}
+use Rattle.std.proofs.lemmas.List.Folds.{prefix_len-append}
 use Rattle.std.proofs.lemmas.List.Sums.{fails_before_first, passes_at_first, position_or_len_is}
-use Rattle.std.proofs.lemmas.Bool.{ne_eqb, eqb-true, eq-eqb}
+use Rattle.std.proofs.lemmas.Bool.{ne_eqb, eqb-true, eq-eqb, cond-true, cond-false}
 use Rattle.memchr.specs.Find.{Nowhere, NoneBefore, Passes, is_byte}
 use Rattle.aero_model.specs.declared.verdict.LineFault.{LineFault}
 use Rattle.aero_model.specs.declared.verdict.LineFault.TheVariants.{Memory}
@@ -60,6 +61,29 @@ module _ (text : List ℕ) (n end : ℕ) (at : end ≡ position_or_len is_line_e
       let place : position_or_len is_line_end text ≡ end =
       position_or_len_is is_line_end text end 0 (omega (arith, below, wide)) (λ k lt. ne_eqb (get_or text k 0) 10 (none_before k lt)) (λ _. eq-eqb (get_or text end 0) 10 stands_there) in
       first_part is_line_end text (omega (arith, below, wide)) ∙ ap (λ k. take k text ∷ lines_of (drop (k + 1) text)) place
+
+-- the first place among so many elements and the next ones
+module _ {X : Type 0} (p : X → Bool) (xs : List X) (n m : ℕ) (long : n ≤ length xs) where
+  parted : take (n + m) xs ≡ take n xs ++ take m (drop n xs)
+  parted =
+      sym (take-append-drop n (take (n + m) xs))
+      ∙ ap₂ (λ front behind. front ++ behind) (take-take n (n + m) xs (omega arith)) (drop-take n m xs)
+
+  both : position_or_len p (take (n + m) xs) ≡ cond (eqb (position_or_len p (take n xs)) n) (n + position_or_len p (take m (drop n xs))) (position_or_len p (take n xs))
+  both =
+      ap (position_or_len p) parted
+      ∙ (prefix_len-append (λ x. not (p x)) (take n xs) (take m (drop n xs))
+      ∙ ap (λ k. cond (eqb (position_or_len p (take n xs)) k) (k + position_or_len p (take m (drop n xs))) (position_or_len p (take n xs))) (length-take-le n xs long))
+
+  pub first_in_front : position_or_len p (take n xs) < n → position_or_len p (take (n + m) xs) ≡ position_or_len p (take n xs)
+  first_in_front below =
+      let first = position_or_len p (take n xs) in
+      both ∙ cond-false (eqb first n) (n + position_or_len p (take m (drop n xs))) first (ne_eqb first n (λ is. omega (arith, is, below)))
+
+  pub first_behind : position_or_len p (take n xs) ≡ n → position_or_len p (take (n + m) xs) ≡ n + position_or_len p (take m (drop n xs))
+  first_behind none =
+      let first = position_or_len p (take n xs) in
+      both ∙ cond-true (eqb first n) (n + position_or_len p (take m (drop n xs))) first (eq-eqb first n none)
 
 -- the text so far, one line more, and the rest
 pub one_more_line : (events : List (ℕ × Named)) (n : ℕ) (whole : Reading) (rest line behind : List ℕ) → whole ≡ followed_by (reading events n None) (reading_of rest) → lines_of rest ≡ line ∷ lines_of behind →

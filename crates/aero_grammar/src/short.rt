@@ -55,7 +55,7 @@ pub fn short_line(text: &[u8]) -> Option<ShortLine<'_>>
 }
 
 // The place of the byte 10 that ends the first line of such a text, where that has up to 4,096 bytes, and, where it has
-// 32 or more, a `|` among the first 32.
+// 64 or more, a `|` among the first 32.
 #[inline(always)]
 fn line_end(text: &[u8]) -> Option<usize>
     requires wide { 64 ≤ length text.now }
@@ -66,14 +66,27 @@ fn line_end(text: &[u8]) -> Option<usize>
     ensures within { IfSome result (λ end. end < length text.now) }
     ensures few { IfSome result (λ end. end ≤ 4096) }
 {
-    let end = place_in(b'\n', text, 0, LANES);
-    if end < LANES {
+    let end = near_line_end(text);
+    if end < FEWEST_BYTES {
         return Some(end);
     }
     if place_in(b'|', text, 0, LANES) == LANES {
         return None;
     }
     far_line_end(text)
+}
+
+// The place of the first byte 10 among the first 64 bytes of such a text, or 64 where there is none.
+#[inline(always)]
+fn near_line_end(text: &[u8]) -> usize
+    requires { 64 ≤ length text.now }
+    ensures { result ≡ position_or_len (λ b. b == 10) (take 64 text.now) }
+{
+    let end = place_in(b'\n', text, 0, LANES);
+    if end < LANES {
+        return end;
+    }
+    LANES + place_in(b'\n', text, LANES, LANES)
 }
 
 // The place of the byte 10 that ends the first line of such a text, where that has up to 4,096 bytes.
