@@ -7,6 +7,7 @@ pub mod Giving
 pub mod Steps
 pub mod Firsts
 pub mod Tallies
+pub mod Starts
 pub mod Growing
 pub mod Lengths
 pub mod Candidates

@@ -1,12 +1,12 @@
 -- One step of making the order: the least free number goes to its end, and its edges give way.
-use Rattle.std.proofs.Common.{◌≡◌, ℕ, ◌+◌, ◌-◌, ◌<◌, ◌==◌, ◌&&◌, nat_lt, true, false, List, [], ◌∷◌, ◌++◌, length, get_or, inl, inr, refl, sym, ◌∙◌, ap, subst, append-nil, arith}
-use Rattle.std.specs.Prelude.{Contains, IsPermutation}
+use Rattle.std.proofs.Common.{◌≡◌, ℕ, ◌+◌, ◌-◌, ◌<◌, ◌==◌, ◌&&◌, nat_lt, true, false, List, [], ◌∷◌, ◌++◌, length, take, get_or, inl, inr, refl, sym, ◌∙◌, ap, subst, append-nil, arith}
+use Rattle.std.specs.Prelude.{Contains, All}
 use Rattle.std.proofs.lemmas.Bool.{cases_lt, le-ltb, eq-eqb}
-use Rattle.std.proofs.lemmas.List.Sorted.{Contains-permutation, IsPermutation-sym}
 use Rattle.std.proofs.lemmas.List.Elements.{Contains-push_cases}
-use Rattle.aero_order.specs.Order.{IsFree, IsLeastFree, GoesOnWith, IsOrder}
-use Rattle.aero_order.specs.Waiting.{Pair, missing_count, edge_count, one_if, is_due, Waits, numbers_of, GivesWay}
+use Rattle.aero_order.specs.Order.{IsLeastFree, IsOrder}
+use Rattle.aero_order.specs.Waiting.{Pair, missing_count, edge_count, one_if, is_due, times, Waits, numbers_of, GivesWay}
 use Rattle.aero_order.proofs.Counts.{edge_counted, missing_next, not_in}
+use Rattle.aero_order.proofs.Giving.{count_more, count_front}
 use Rattle.aero_order.proofs.Progress.{Follows, follows_nil, follows_next, length_less, free_from_held, held_from_free, waits_popped, waits_same}
 
 -- between two steps
@@ -44,16 +44,16 @@ module _ (count : ℕ) (edges : List Pair) (order waiting : List ℕ) (held : �
     pub room : length order < count
     room = length_less count edges order u b.follows next.free
 
-    -- the edges from u give way
-    pub between_next : (fewer : List ℕ) (more : ℕ → ℕ) → length fewer ≡ length waiting → GivesWay edges u waiting left fewer more → Between count edges (order ++ u ∷ []) fewer more
-    between_next fewer more len gives = record { follows = follows_next count edges order u b.follows next; len = len ∙ b.len; waits = waits }
+    -- the targets of the edges from u give way
+    pub between_next : (targets fewer : List ℕ) (more : ℕ → ℕ) → ((v : ℕ) → times v targets ≡ edge_count edges u v) → length fewer ≡ length waiting → GivesWay targets waiting left fewer more → Between count edges (order ++ u ∷ []) fewer more
+    between_next targets fewer more are len gives = record { follows = follows_next count edges order u b.follows next; len = len ∙ b.len; waits = waits }
       where
-        after : (v : ℕ) → missing_count edges order v ≡ missing_count edges (order ++ u ∷ []) v + edge_count edges u v
-        after v = missing_next order u (not_in order u next.free.new) v edges
+        after : (v : ℕ) → missing_count edges order v ≡ missing_count edges (order ++ u ∷ []) v + times v targets
+        after v = omega (arith, are v, missing_next order u (not_in order u next.free.new) v edges)
 
-        absent : (v : ℕ) → 0 < edge_count edges u v → ¬ Contains (order ++ u ∷ []) v
+        absent : (v : ℕ) → 0 < times v targets → ¬ Contains (order ++ u ∷ []) v
         absent v some c =
-            let edge : Contains edges (u, v) = edge_counted edges u v some in
+            let edge : Contains edges (u, v) = edge_counted edges u v (omega (arith, some, are v)) in
             elim (Contains-push_cases order u v c) [
               | inl old ↦ next.free.new (b.follows.closed v old u edge)
               | inr e ↦ next.free.new (next.free.after u (subst (λ w. Contains edges (u, w)) (sym e) edge))
@@ -62,29 +62,21 @@ module _ (count : ℕ) (edges : List Pair) (order waiting : List ℕ) (held : �
         popped : Waits (length waiting) (order ++ u ∷ []) (missing_count edges order) (numbers_of waiting) left
         popped = subst (λ n. Waits n (order ++ u ∷ []) (missing_count edges order) (numbers_of waiting) left) (sym b.len) (waits_popped count edges order (numbers_of waiting) held b.waits u left taken split)
 
-        given : Waits (length waiting) (order ++ u ∷ []) (λ v. missing_count edges order v - edge_count edges u v) (numbers_of fewer) more
+        given : Waits (length waiting) (order ++ u ∷ []) (λ v. missing_count edges order v - times v targets) (numbers_of fewer) more
         given = gives (order ++ u ∷ []) (missing_count edges order) popped (λ v. omega (arith, after v)) absent
 
         waits : Waits count (order ++ u ∷ []) (missing_count edges (order ++ u ∷ [])) (numbers_of fewer) more
         waits =
-            waits_same count edges (order ++ u ∷ []) (λ v. missing_count edges order v - edge_count edges u v) (missing_count edges (order ++ u ∷ [])) (numbers_of fewer) more
+            waits_same count edges (order ++ u ∷ []) (λ v. missing_count edges order v - times v targets) (missing_count edges (order ++ u ∷ [])) (numbers_of fewer) more
             (λ v. omega (arith, after v))
-            (subst (λ n. Waits n (order ++ u ∷ []) (λ v. missing_count edges order v - edge_count edges u v) (numbers_of fewer) more) b.len given)
+            (subst (λ n. Waits n (order ++ u ∷ []) (λ v. missing_count edges order v - times v targets) (numbers_of fewer) more) b.len given)
 
--- the order depends on which edges there are, and not on how they are listed
-module _ (count : ℕ) (edges other : List Pair) (there : (e : Pair) → Contains edges e → Contains other e) (back : (e : Pair) → Contains other e → Contains edges e) where
-  free_listed : (order : List ℕ) (v : ℕ) → IsFree count edges order v → IsFree count other order v
-  free_listed order v f = record { within = f.within; new = f.new; after = λ u c. f.after u (back (u, v) c) }
-
-  free_unlisted : (order : List ℕ) (v : ℕ) → IsFree count other order v → IsFree count edges order v
-  free_unlisted order v f = record { within = f.within; new = f.new; after = λ u c. f.after u (there (u, v) c) }
-
-  goes_listed : (order more : List ℕ) → GoesOnWith count edges order more → GoesOnWith count other order more
-  goes_listed order [] g = λ v f. g v (free_unlisted order v f)
-  goes_listed order (v ∷ more) g =
-      let h = g.0 in
-      (record { free = free_listed order v h.free; least = λ u l f. h.least u l (free_unlisted order u f) }, goes_listed (order ++ v ∷ []) more g.1)
-
-pub order_permuted : (count : ℕ) (edges other : List Pair) (order : List ℕ) → IsPermutation edges other → IsOrder count other order → IsOrder count edges order
-order_permuted count edges other order p g =
-    goes_listed count other edges (λ e c. Contains-permutation other edges e (IsPermutation-sym edges other p) c) (λ e c. Contains-permutation edges other e p c) [] order g
+-- the targets that are counted as the edges from u are numbers to which these lead
+pub targets_within : (count u : ℕ) (edges : List Pair) (targets : List ℕ) → All (λ e. e.1 < count) edges → ((v : ℕ) → times v targets ≡ edge_count edges u v) → All (λ v. v < count) targets
+targets_within count u edges targets within are k d l =
+    let v = get_or targets k d in
+    let one : one_if (v == v) ≡ 1 = ap one_if (eq-eqb v v refl) in
+    let once : times v (take (k + 1) targets) ≡ times v (take k targets) + one_if (v == v) = count_more (λ w. w == v) targets k d l in
+    let c = edge_counted edges u v (omega (arith, one, once, count_front (λ w. w == v) targets (k + 1), are v)) in
+    let at : (get_or edges c.0 (u, v)).1 ≡ v = ap (λ (p : Pair). p.1) c.2 in
+    omega (arith, at, within c.0 (u, v) c.1)

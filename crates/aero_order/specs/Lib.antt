@@ -1,7 +1,7 @@
 -- To be believed: Near (near events), TransactionNumbers (transactions by numbers, and edges), Order (each time the least that may
 -- come), Came (events by line and thread) and Laws. Also Standing (for which trace Transactions stands, and what it
 -- keeps of the events that came), with LastNumbers (what is kept of last events).
--- For proofs alone: Held, Numbering, Waiting, and MarkWords, by which Standing reads the code's tables.
+-- For proofs alone: Held, Numbering, Starts, TargetWords, Waiting, and MarkWords, by which Standing reads the code's tables.
 pub mod Near
 pub mod Order
 pub mod Waiting
@@ -13,3 +13,5 @@ pub mod LastNumbers
 pub mod MarkWords
 pub mod Numbering
 pub mod Standing
+pub mod Starts
+pub mod TargetWords

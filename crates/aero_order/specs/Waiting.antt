@@ -39,11 +39,15 @@ pub record Waits (count : ℕ) (order : List ℕ) (due waits held : ℕ → ℕ)
 abbrev pub numbers_of : List ℕ → ℕ → ℕ
 numbers_of xs v = slice_index_or xs v 0
 
--- the edges from u are no longer due
-abbrev pub GivesWay : List Pair → ℕ → List ℕ → (ℕ → ℕ) → List ℕ → (ℕ → ℕ) → Type 0
-GivesWay edges u waiting held fewer more =
+-- how often the list has the number
+abbrev pub times : ℕ → List ℕ → ℕ
+times v xs = count_by (λ w. w == v) xs
+
+-- an edge to each of the targets is no longer due
+abbrev pub GivesWay : List ℕ → List ℕ → (ℕ → ℕ) → List ℕ → (ℕ → ℕ) → Type 0
+GivesWay targets waiting held fewer more =
     (order : List ℕ) (due : ℕ → ℕ)
     → Waits (length waiting) order due (numbers_of waiting) held
-    → ((v : ℕ) → edge_count edges u v ≤ due v)
-    → ((v : ℕ) → 0 < edge_count edges u v → ¬ Contains order v)
-    → Waits (length waiting) order (λ v. due v - edge_count edges u v) (numbers_of fewer) more
+    → ((v : ℕ) → times v targets ≤ due v)
+    → ((v : ℕ) → 0 < times v targets → ¬ Contains order v)
+    → Waits (length waiting) order (λ v. due v - times v targets) (numbers_of fewer) more

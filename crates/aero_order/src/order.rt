@@ -1,31 +1,26 @@
 //! The order of numbers along edges, each time the least that may come.
-ghost use Rattle.std.specs.Prelude.{◌≡◌, ◌≢◌, ◌+◌, ◌<◌, ◌≤◌, ◌==◌, ◌&&◌, ℕ, [], length, vec_len, slice_index, OnOk, IfOk, All};
-ghost use Rattle.std.specs.List.Sorted.{IsNonDecreasingBy, IsPermutation};
+ghost use Rattle.std.specs.Prelude.{◌≡◌, ◌≢◌, ◌+◌, ◌<◌, ◌==◌, ◌&&◌, ℕ, [], length, vec_len, slice_index, OnOk, IfOk, All};
 ghost use Rattle.aero_order.specs.Held.{held};
 ghost use Rattle.aero_order.specs.Order.{IsOrder};
 ghost use Rattle.aero_order.specs.Waiting.{one_if, is_due, missing_count, numbers_of, GivesWay};
 
 use crate::free::Free;
+use crate::targets::Targets;
 use std::alloc::{AllocError, Global};
 
 /// The numbers below `count`, as far as no edges go round: each time the least is next to which
 /// no edge leads from one that isn't there yet.
-pub fn least_order(
-    alloc: Global,
-    count: u32,
-    edges: &mut [(u32, u32)],
-) -> Result<Vec<u32>, AllocError>
-    requires { All (λ e. (e.0 < count) × (e.1 < count)) edges.old }
-    ensures order { IfOk result (λ order. IsOrder count edges.old order.items) }
-    ensures edges { IsPermutation edges.old edges.new }
+pub fn least_order(alloc: Global, count: u32, edges: &[(u32, u32)]) -> Result<Vec<u32>, AllocError>
+    requires { All (λ e. (e.0 < count) × (e.1 < count)) edges.now }
+    ensures { IfOk result (λ order. IsOrder count edges.now order.items) }
 {
-    edges.sort_unstable_by_key(|e| e.0);
+    let targets = Targets::new(alloc, count, edges)?;
     let mut waiting = count_waiting(alloc, count, edges)?;
     let mut free = first_free(alloc, count, &waiting)?;
     let mut order = vec![in alloc]?;
     while let Some(u) = free.take_least() {
         order.push(u)?;
-        give_way(edges, u, &mut waiting, &mut free)?;
+        release_all(targets.of(u), &mut waiting, &mut free)?;
     }
     Ok(order)
 }
@@ -60,40 +55,14 @@ fn first_free(alloc: Global, count: u32, waiting: &[usize]) -> Result<Free, Allo
     Ok(free)
 }
 
-// The edges from `u` are waited for no longer.
-fn give_way(
-    edges: &[(u32, u32)],
-    u: u32,
-    waiting: &mut [usize],
-    free: &mut Free,
-) -> Result<(), AllocError>
-    requires within { All (λ e. e.1 < length waiting.old) edges.now }
-    requires ordered { IsNonDecreasingBy (λ e. e.0) edges.now }
-    ensures { OnOk result (GivesWay edges.now u waiting.old (held free.old) waiting.new
+// One edge to each of the targets is waited for no longer.
+fn release_all(targets: &[u32], waiting: &mut [usize], free: &mut Free) -> Result<(), AllocError>
+    requires { All (λ v. v < length waiting.old) targets.now }
+    ensures { OnOk result (GivesWay targets.now waiting.old (held free.old) waiting.new
         (held free.new)) }
 {
-    let first = edges.partition_point(|e| e.0 < u);
-    release_all(&edges[first..], u, waiting, free)
-}
-
-// The edges from `u`, which come first, are waited for no longer.
-fn release_all(
-    edges: &[(u32, u32)],
-    u: u32,
-    waiting: &mut [usize],
-    free: &mut Free,
-) -> Result<(), AllocError>
-    requires within { All (λ e. e.1 < length waiting.old) edges.now }
-    requires ordered { IsNonDecreasingBy (λ e. e.0) edges.now }
-    requires from { All (λ e. u ≤ e.0) edges.now }
-    ensures { OnOk result (GivesWay edges.now u waiting.old (held free.old) waiting.new
-        (held free.new)) }
-{
-    for e in edges {
-        if e.0 != u {
-            return Ok(());
-        }
-        release(e.1, waiting, free)?;
+    for v in targets {
+        release(*v, waiting, free)?;
     }
     Ok(())
 }

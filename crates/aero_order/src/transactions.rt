@@ -88,8 +88,8 @@ impl Transactions {
             KeepsCame self came → All (IsOf came) found.items)) }
     {
         let firsts = self.firsts;
-        let mut edges = self.edges;
-        order_of(alloc, &firsts, &mut edges)
+        let edges = self.edges;
+        order_of(alloc, &firsts, &edges)
     }
 }
 
@@ -114,17 +114,17 @@ fn number_of(firsts: &mut Vec<First>, known: Option<u32>, first: First) -> Resul
 fn order_of(
     alloc: Global,
     firsts: &[First],
-    edges: &mut [(u32, u32)],
+    edges: &[(u32, u32)],
 ) -> Result<Option<Vec<First>>, AllocError>
     requires few { length firsts.now < 2 ^ 32 }
     requires stands { (trace : List Numbered) × AreFirsts trace (places_in firsts.now) ×
-        AreEdges trace (places_in firsts.now) edges.old }
+        AreEdges trace (places_in firsts.now) edges.now }
     ensures exact { IfOk result (λ order. (trace : List Numbered) → IsWellFormed trace →
-        AreFirsts trace (places_in firsts.now) → AreEdges trace (places_in firsts.now) edges.old →
+        AreFirsts trace (places_in firsts.now) → AreEdges trace (places_in firsts.now) edges.now →
         IsSome order ↔ IsSerializable trace (length trace)) }
     ensures serial { IfOk result (λ order. IfSome order (λ found. (trace : List Numbered) →
         IsWellFormed trace → AreFirsts trace (places_in firsts.now) →
-        AreEdges trace (places_in firsts.now) edges.old →
+        AreEdges trace (places_in firsts.now) edges.now →
         IsSerialOrder trace (places_in found.items))) }
     ensures kept { IfOk result (λ order. IfSome order (λ found. (came : List Came) →
         AreOf came firsts.now → All (IsOf came) found.items)) }

@@ -9,7 +9,7 @@ use aero_order::{Transactions, least_order};
 use std::alloc::{AllocError, Global};
 
 // Whether this is the order. Where memory is refused, it is none.
-fn is_order(alloc: Global, count: u32, edges: &mut [(u32, u32)], wanted: &[u32]) -> bool {
+fn is_order(alloc: Global, count: u32, edges: &[(u32, u32)], wanted: &[u32]) -> bool {
     if edges.len() > 1000 || !edges.iter().all(|e| e.0 < count && e.1 < count) {
         return false;
     }
@@ -21,8 +21,7 @@ fn is_order(alloc: Global, count: u32, edges: &mut [(u32, u32)], wanted: &[u32])
 
 // Number 2 comes before 1, and 0 before both.
 fn is_order_of_three(alloc: Global) -> bool {
-    let around = &mut [(0, 2), (2, 1), (0, 1), (0, 2)];
-    is_order(alloc, 3, around, &[0, 2, 1])
+    is_order(alloc, 3, &[(0, 2), (2, 1), (0, 1), (0, 2)], &[0, 2, 1])
 }
 
 #[test]
@@ -30,14 +29,17 @@ fn the_least_that_may_come_is_next(rt: HostRuntime) {
     let alloc = rt.alloc();
     let are_orders = [
         // An edge against the order of the numbers.
-        is_order(alloc, 2, &mut [(1, 0)], &[1, 0]),
+        is_order(alloc, 2, &[(1, 0)], &[1, 0]),
         is_order_of_three(alloc),
         // Without edges, the numbers in order.
-        is_order(alloc, 3, &mut [], &[0, 1, 2]),
+        is_order(alloc, 3, &[], &[0, 1, 2]),
         // Two wait for each other.
-        is_order(alloc, 4, &mut [(1, 2), (2, 1)], &[0, 3]),
+        is_order(alloc, 4, &[(1, 2), (2, 1)], &[0, 3]),
+        // One waits for itself.
+        is_order(alloc, 2, &[(0, 0)], &[1]),
+        is_order(alloc, 0, &[], &[]),
     ];
-    assert!(rt; are_orders == [true, true, true, true]);
+    assert!(rt; are_orders == [true, true, true, true, true, true]);
 }
 
 fn what_of(event: Event) -> What {
