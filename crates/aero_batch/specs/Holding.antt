@@ -14,7 +14,7 @@ use Rattle.aero_intake.specs.Source.{WasRead}
 use Rattle.aero_batch.specs.Inquiries.{AreApart, all_open, open_count}
 use Rattle.aero_batch.specs.Steps.{IsStart}
 use Rattle.aero_intake.specs.Stories.{Story, AreEnough, BeginAlike, AreTracked}
-use Rattle.aero_verdict.specs.Finding.{IsFinding}
+use Rattle.aero_judge.specs.Finding.{IsFinding}
 use Rattle.aero_model.specs.Terms.{Terms}
 
 -- of a source that was not read yet

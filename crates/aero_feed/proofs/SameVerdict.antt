@@ -11,7 +11,7 @@ use Rattle.aero_lines.proofs.Runs.{blocks_are_the_text}
 use Rattle.aero_verdict.specs.Explained.{IsCycleOf}
 use Rattle.aero_verdict.specs.Verdict.{IsVerdict}
 use Rattle.aero_model.specs.Terms.{Rules}
-use Rattle.aero_verdict.proofs.SameVerdict.{one_read, same_verdict, same_cycle}
+use Rattle.aero_judge.proofs.SameVerdict.{one_read, same_verdict, same_cycle}
 
 -- what the blocks say, one after the other, is what the text says
 pub blocks_read : (pieces : List (List ℕ)) → whole_reading (map reading_of (blocks_from nothing_yet pieces)) ≡ reading_of (concat pieces)

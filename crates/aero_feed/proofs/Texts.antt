@@ -15,7 +15,7 @@ use Rattle.aero_lines.specs.Cutting.{Cutting, nothing_yet, unless_empty, fed, bl
 use Rattle.aero_lines.proofs.Steps.{last_block-shut, last_block-at}
 use Rattle.aero_verdict.specs.Explained.{IsCycleOf, ShowsCertain, ShowsIfAsked}
 use Rattle.aero_verdict.specs.Fed.{IsCertain, IsOpen}
-use Rattle.aero_verdict.specs.Judging.{Judging, nothing_judged}
+use Rattle.aero_judge.specs.Judging.{Judging, nothing_judged}
 use Rattle.aero_verdict.specs.Ordered.{is_faultless}
 use Rattle.aero_verdict.specs.Verdict.{IsVerdict}
 use Rattle.aero_model.specs.Terms.{Rules, Terms}

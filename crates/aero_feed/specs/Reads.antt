@@ -1,5 +1,5 @@
 -- What is kept of a text that is judged as it comes.
-use Rattle.std.specs.Prelude.{◌≡◌, ◌⊎◌, ℕ, Bool, true, false, List, [], ◌∷◌, ◌++◌, map, Option, None, Some, is_some, IfSome, option_to_list}
+use Rattle.std.specs.Prelude.{◌≡◌, ◌⊎◌, ℕ, true, false, List, [], ◌∷◌, ◌++◌, map, Option, None, Some, is_some, IfSome, option_to_list}
 use Rattle.std.specs.List.{concat}
 use Rattle.aero_model.specs.declared.verdict.Cycle.{Cycle}
 use Rattle.aero_model.specs.declared.verdict.Verdict.{Verdict}
@@ -7,7 +7,7 @@ use Rattle.aero_grammar.specs.Reading.{Reading, reading_of, whole_reading}
 use Rattle.aero_lines.specs.Cutting.{Cutting, IsOpenLine, blocks_from, last_block}
 use Rattle.aero_verdict.specs.Explained.{IsCycleOf}
 use Rattle.aero_verdict.specs.Fed.{IsCertain, IsOpen}
-use Rattle.aero_verdict.specs.Judging.{Judging}
+use Rattle.aero_judge.specs.Judging.{Judging}
 use Rattle.aero_feed.specs.Feeding.{IsCertainOf}
 
 -- what isn't cut yet is the text's end, and has no byte 10

@@ -92,7 +92,7 @@ impl Feed {
     }
 
     /// Judges what came so far, as `is_certain` does, and gives what shows the verdict if it is a violation and certain: the
-    /// label of the block that it names, and the events of a telling cycle, as `judge_trace` of aero_verdict finds them.
+    /// label of the block that it names, and the events of a telling cycle, as `judge_trace` of aero_judge finds them.
     /// `None` if no violation is certain, or if the terms ask for no explanation. Once one is certain, each call takes as long
     /// as there are events up to it.
     ///

@@ -5,14 +5,14 @@ ghost use Rattle.aero_model.specs.Verdicts.{HasOwnFault};
 ghost use Rattle.aero_grammar.specs.Reading.{reading_of};
 ghost use Rattle.aero_lines.specs.Cutting.{fed, block_of, last_block};
 ghost use Rattle.aero_verdict.specs.Fed.{IsCertain, IsOpen};
-ghost use Rattle.aero_verdict.specs.Judging.{judging_of};
+ghost use Rattle.aero_judge.specs.Judging.{judging_of};
 ghost use Rattle.aero_feed.specs.Feeding.{nothing_fed, FeedsOn, IsTextVerdict, IsCertainOf, IsOpenText, ShowsText};
 ghost use Rattle.aero_feed.specs.Reads.{IsJudgedOut};
 
 use crate::ghost_text::GhostText;
+use aero_judge::Judge;
 use aero_lines::Cutter;
 use aero_model::{Cycle, Except, Terms, Verdict};
-use aero_verdict::Judge;
 use std::alloc::{AllocError, Global};
 use std::marker::Model;
 
@@ -34,7 +34,7 @@ impl Model for TextMonitor {
 
     ghost use Rattle.std.specs.Prelude.{◌≡◌, false};
     ghost use Rattle.aero_feed.specs.Reads.{StandsAt};
-    ghost use Rattle.aero_verdict.specs.Judging.{judging_of};
+    ghost use Rattle.aero_judge.specs.Judging.{judging_of};
 
     ghost view = { λ t. record {
       rules = (judging_of t.judge).terms.rules;

@@ -11,8 +11,8 @@ use Rattle.aero_model.specs.declared.verdict.Finding.TheVariants as findings
 use Rattle.aero_model.specs.Terms.{Terms, to_the_end}
 use Rattle.aero_grammar.specs.Reading.{reading_of}
 use Rattle.aero_lines.specs.Cutting.{nothing_yet, block_of, last_block, blocks_from}
-use Rattle.aero_verdict.specs.Finding.{IsTraceFinding}
-use Rattle.aero_verdict.specs.Judging.{Judging, nothing_judged}
+use Rattle.aero_judge.specs.Finding.{IsTraceFinding}
+use Rattle.aero_judge.specs.Judging.{Judging, nothing_judged}
 use Rattle.aero_intake.specs.Alone.{IsFoundIn, StandsAlone, IsJudgedOut}
 use Rattle.aero_intake.specs.Held.{IsDecisive}
 use Rattle.aero_intake.specs.Intake.{Taking, nothing_taken, with_piece, with_cut, with_passing, fed_all, HaveCome, HasCome, Comes, Ends}

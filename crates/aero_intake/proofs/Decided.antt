@@ -16,7 +16,7 @@ use Rattle.aero_model.specs.Terms.{Rules}
 use Rattle.aero_intake.specs.Laws.{AreJudgedAlike, FirstChunksDecide}
 use Rattle.aero_intake.specs.Tracks.{decides}
 use Rattle.aero_intake.proofs.Judged.{counted_alike}
-use Rattle.aero_verdict.proofs.SameVerdict.{one_read}
+use Rattle.aero_judge.proofs.SameVerdict.{one_read}
 
 -- lines count from 1
 

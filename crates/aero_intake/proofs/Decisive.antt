@@ -10,9 +10,9 @@ use Rattle.aero_model.specs.declared.verdict.Verdict.TheVariants.{Serializable, 
 use Rattle.aero_grammar.specs.Reading.{Reading, reading_of}
 use Rattle.aero_verdict.specs.Explained.{IsCycleOf}
 use Rattle.aero_verdict.specs.Fed.{IsCertain}
-use Rattle.aero_verdict.specs.Finding.{IsTraceFinding}
+use Rattle.aero_judge.specs.Finding.{IsTraceFinding}
 use Rattle.aero_model.specs.Terms.{Terms, Rules}
-use Rattle.aero_verdict.specs.Opened.{has_blocks}
+use Rattle.aero_judge.specs.Opened.{has_blocks}
 use Rattle.aero_verdict.specs.Ordered.{has_order, is_faultless}
 use Rattle.aero_verdict.specs.Verdict.{IsVerdict}
 use Rattle.aero_verdict.proofs.OneVerdict.{one_verdict}

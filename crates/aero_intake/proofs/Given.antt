@@ -3,7 +3,7 @@ use Rattle.std.proofs.Common.{◌≡◌, inl, inr, List, Some, None, ◌∙◌, 
 use Rattle.std.specs.Prelude.{option_map}
 use Rattle.aero_model.specs.declared.verdict.Finding.{Finding}
 use Rattle.aero_grammar.specs.Reading.{Reading}
-use Rattle.aero_verdict.specs.Finding.{IsTraceFinding}
+use Rattle.aero_judge.specs.Finding.{IsTraceFinding}
 use Rattle.aero_intake.specs.Held.{Known}
 use Rattle.aero_intake.specs.declared.track.Track.{Track}
 use Rattle.aero_intake.specs.declared.track.Track.TheVariants.{Arriving, Arrived, Checking, Found}

@@ -8,10 +8,10 @@ use Rattle.aero_grammar.specs.Reading.{Reading, reading_of, whole_reading, event
 use Rattle.aero_grammar.proofs.Joined.{reading_of-cap, reading_of-concat}
 use Rattle.aero_lines.specs.Cutting.{nothing_yet, blocks_from}
 use Rattle.aero_lines.proofs.Runs.{blocks_are_the_text}
-use Rattle.aero_verdict.specs.Finding.{IsTraceFinding}
+use Rattle.aero_judge.specs.Finding.{IsTraceFinding}
 use Rattle.aero_model.specs.Terms.{Terms, Rules}
 use Rattle.aero_intake.specs.Laws.{AreJudgedAlike, ChunksJudgeAsTheText}
-use Rattle.aero_verdict.proofs.SameVerdict.{one_read, same_verdict, same_order, same_cycle, same_blocks}
+use Rattle.aero_judge.proofs.SameVerdict.{one_read, same_verdict, same_order, same_cycle, same_blocks}
 
 -- what the chunks say, one after the other, is what the text says
 pub chunks_read : (pieces : List (List ℕ)) → whole_reading (map reading_of (blocks_from nothing_yet pieces)) ≡ reading_of (concat pieces)

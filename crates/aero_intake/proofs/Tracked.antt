@@ -21,7 +21,7 @@ use Rattle.aero_pieces.specs.declared.question.Question.TheVariants.{Parse, Chec
 use Rattle.aero_pieces.specs.declared.answer.Value.{Value}
 use Rattle.aero_pieces.specs.declared.answer.Value.TheVariants.{Parsed, Judged, Ordered, Explained, Opened}
 use Rattle.aero_pieces.specs.Values.{IsValueOf}
-use Rattle.aero_verdict.specs.Finding.{IsFinding, IsTraceFinding}
+use Rattle.aero_judge.specs.Finding.{IsFinding, IsTraceFinding}
 use Rattle.aero_model.specs.Terms.{Terms, asking, to_the_end}
 use Rattle.aero_intake.specs.Held.{Known, with_next, IsDecisive}
 use Rattle.aero_intake.specs.Intake.{Taking, IsTaken}

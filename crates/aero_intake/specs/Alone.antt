@@ -8,8 +8,8 @@ use Rattle.aero_model.specs.declared.verdict.Found.{Found}
 use Rattle.aero_model.specs.Terms.{Terms, to_the_end}
 use Rattle.aero_grammar.specs.Reading.{reading_of}
 use Rattle.aero_lines.specs.Cutting.{nothing_yet, blocks_from}
-use Rattle.aero_verdict.specs.Finding.{IsFinding}
-use Rattle.aero_verdict.specs.Judging.{Judging}
+use Rattle.aero_judge.specs.Finding.{IsFinding}
+use Rattle.aero_judge.specs.Judging.{Judging}
 use Rattle.aero_intake.specs.Held.{IsDecisive}
 use Rattle.aero_intake.specs.Intake.{Taking, IsTaken, HasCome}
 use Rattle.aero_intake.specs.Source.{Sight, WasRead}

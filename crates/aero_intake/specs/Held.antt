@@ -7,7 +7,7 @@ use Rattle.aero_intake.specs.declared.held.Held.TheVariants.{Kept, Live}
 use Rattle.aero_intake.specs.declared.held.Basis.{Basis}
 use Rattle.aero_intake.specs.declared.held.Basis.TheVariants.{ByParts, Already}
 use Rattle.aero_model.specs.declared.verdict.Finding.{Finding}
-use Rattle.aero_verdict.specs.Finding.{IsTraceFinding}
+use Rattle.aero_judge.specs.Finding.{IsTraceFinding}
 use Rattle.aero_model.specs.Terms.{Terms, to_the_end}
 
 -- on what terms a source is judged, what its first chunks say, in their order, whether it is live, that is, judged as it comes, and whether its

@@ -9,7 +9,7 @@ use Rattle.aero_grammar.specs.Reading.{Reading, reading_of}
 use Rattle.aero_lines.specs.Cutting.{nothing_yet, blocks_from}
 use Rattle.aero_intake.specs.Tracks.{decides}
 use Rattle.aero_verdict.specs.Explained.{IsCycleOf}
-use Rattle.aero_verdict.specs.Opened.{AreOpenBlocks}
+use Rattle.aero_judge.specs.Opened.{AreOpenBlocks}
 use Rattle.aero_verdict.specs.Ordered.{AreStepsInOrder}
 use Rattle.aero_verdict.specs.Verdict.{IsVerdict}
 use Rattle.aero_model.specs.Terms.{Rules}

@@ -9,7 +9,7 @@ use Rattle.aero_pieces.specs.declared.question.Question.{Question}
 use Rattle.aero_pieces.specs.declared.question.Question.TheVariants.{Parse, Check}
 use Rattle.aero_pieces.specs.declared.answer.Value.{Value}
 use Rattle.aero_pieces.specs.Values.{IsValueOf}
-use Rattle.aero_verdict.specs.Finding.{IsFinding}
+use Rattle.aero_judge.specs.Finding.{IsFinding}
 use Rattle.aero_model.specs.Terms.{Terms, asking, to_the_end}
 use Rattle.aero_intake.specs.Held.{Known, IsDecisive}
 use Rattle.aero_intake.specs.declared.track.Track.{Track}

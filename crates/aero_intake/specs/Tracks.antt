@@ -5,7 +5,7 @@ use Rattle.aero_model.specs.declared.verdict.Ending.{Ending}
 use Rattle.aero_model.specs.declared.verdict.Finding.{Finding}
 use Rattle.aero_model.specs.declared.verdict.Finding.TheVariants as findings
 use Rattle.aero_grammar.specs.Reading.{Reading, whole_reading, malformed_line}
-use Rattle.aero_verdict.specs.Finding.{IsTraceFinding}
+use Rattle.aero_judge.specs.Finding.{IsTraceFinding}
 use Rattle.aero_pieces.specs.declared.answer.Value.{Value}
 use Rattle.aero_pieces.specs.declared.answer.Value.TheVariants.{Parsed, Judged, Ordered, Explained, Opened}
 use Rattle.aero_intake.specs.Held.{Known, with_next, IsDecisive}

@@ -7,15 +7,15 @@ ghost use Rattle.aero_intake.specs.PlanTerms.{terms_of};
 ghost use Rattle.aero_intake.specs.Source.{Sight, origin_in};
 ghost use Rattle.aero_model.specs.declared.verdict.Ending.{Ending as AnyEnding};
 ghost use Rattle.aero_model.specs.Terms.{to_the_end};
-ghost use Rattle.aero_verdict.specs.Finding.{IsTraceFinding};
-ghost use Rattle.aero_verdict.specs.Judging.{judging_of, nothing_judged};
+ghost use Rattle.aero_judge.specs.Finding.{IsTraceFinding};
+ghost use Rattle.aero_judge.specs.Judging.{judging_of, nothing_judged};
 
 use crate::intake::{Intake, Taken};
 use crate::plan::Plan;
 use crate::source::Followed;
+use aero_judge::Judge;
 use aero_lines::Block;
 use aero_model::{Ending, Except, Finding, Found, Terms};
-use aero_verdict::Judge;
 use std::alloc::{AllocError, Global};
 use std::sync::Wait;
 use std::sync::atomic::{AtomicBool, Ordering};

@@ -1,7 +1,7 @@
 //! What is held of a source whose chunks are being read.
 ghost use Rattle.std.specs.Prelude.{◌≡◌, ◌++◌, ◌∷◌, [], length, false, not, ◌&&◌, ◌||◌, nat_lt, IfOk, OnOk, IsTrue};
 ghost use Rattle.aero_intake.specs.Held.{parts_in, live_in, certain_in, event_count, turns_live, CountsEvents, FitsTerms, IsDecisive, IsBasis};
-ghost use Rattle.aero_verdict.specs.Finding.{IsTraceFinding};
+ghost use Rattle.aero_judge.specs.Finding.{IsTraceFinding};
 ghost use Rattle.aero_model.specs.Terms.{Terms as Asked, to_the_end};
 
 use crate::live::Live;

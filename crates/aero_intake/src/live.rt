@@ -1,13 +1,13 @@
 //! A source that is judged as it comes.
 ghost use Rattle.std.specs.Prelude.{◌≡◌, ◌++◌, ◌∷◌, [], ◌-◌, length, is_some, IfOk, IfSome, OnOk};
 ghost use Rattle.aero_verdict.specs.Fed.{IsCertain};
-ghost use Rattle.aero_verdict.specs.Finding.{IsTraceFinding};
+ghost use Rattle.aero_judge.specs.Finding.{IsTraceFinding};
 ghost use Rattle.aero_model.specs.Terms.{to_the_end};
-ghost use Rattle.aero_verdict.specs.Judging.{judging_of};
+ghost use Rattle.aero_judge.specs.Judging.{judging_of};
 
 use aero_grammar::Parsed;
+use aero_judge::Judge;
 use aero_model::{Except, Finding, Terms};
-use aero_verdict::Judge;
 use std::alloc::{AllocError, Global};
 use std::collections::VecDeque;
 use std::marker::Model;
@@ -25,7 +25,7 @@ pub struct Live {
 
 impl Model for Live {
     ghost use Rattle.aero_intake.specs.Lives.{Watched};
-    ghost use Rattle.aero_verdict.specs.Judging.{judging_of};
+    ghost use Rattle.aero_judge.specs.Judging.{judging_of};
 
     ghost Value = { Watched };
 

@@ -6,7 +6,7 @@ use Rattle.aero_pieces.specs.declared.question.Question.TheVariants.{Parse, Chec
 use Rattle.aero_pieces.specs.declared.answer.Value.{Value}
 use Rattle.aero_pieces.specs.declared.answer.Value.TheVariants.{Parsed, Judged, Ordered, Explained, Opened}
 use Rattle.aero_grammar.specs.Reading.{reading_of}
-use Rattle.aero_verdict.specs.Finding.{IsTraceFinding}
+use Rattle.aero_judge.specs.Finding.{IsTraceFinding}
 use Rattle.aero_model.specs.Terms.{asking}
 
 -- what a block says, or what is found of the trace that the blocks hold

@@ -4,14 +4,14 @@ ghost use Rattle.std.specs.Arc.{arc_value};
 ghost use Rattle.aero_model.specs.declared.limits.Limits.{Limits};
 ghost use Rattle.aero_model.specs.Exempt.{Listed};
 ghost use Rattle.aero_grammar.specs.Reading.{Reading};
-ghost use Rattle.aero_verdict.specs.Finding.{IsTraceFinding};
+ghost use Rattle.aero_judge.specs.Finding.{IsTraceFinding};
 ghost use Rattle.aero_model.specs.Terms.{asking, Terms as Judged};
 ghost use Rattle.aero_pieces.specs.Values.{IsValueOf};
 
 use crate::question::Question;
 use aero_grammar::{Parsed, parse_block};
+use aero_judge::judge_trace;
 use aero_model::{Cycle, Finding, Limits, OpenBlock, SharedExcept, Step, Terms, Verdict};
-use aero_verdict::judge_trace;
 use std::alloc::{AllocError, Global};
 use std::marker::Model;
 use std::sync::Arc;

@@ -9,7 +9,7 @@ use Rattle.aero_model.specs.declared.verdict.Ending.{Ending}
 use Rattle.aero_model.specs.declared.verdict.Ending.TheVariants.{Whole, Broken, TooLarge, Stopped}
 use Rattle.aero_telling.specs.Founds.{Found}
 use Rattle.aero_intake.specs.Source.{FitsLimit, NothingIsLeft, Origin, File, Sight, Trail, Trails, WasRead, is_broken}
-use Rattle.aero_verdict.specs.Finding.{IsCertainFinding, IsFinding}
+use Rattle.aero_judge.specs.Finding.{IsCertainFinding, IsFinding}
 use Rattle.aero_model.specs.Terms.{Terms}
 use Rattle.aero_watch.specs.Watches.{unbegun}
 use Rattle.aero_program.specs.declared.command.Sources.{Sources}

@@ -5,7 +5,7 @@ use Rattle.aero_model.specs.declared.verdict.Ending.{Ending}
 use Rattle.aero_model.specs.declared.verdict.Ending.TheVariants.{Whole, Stopped}
 use Rattle.aero_model.specs.CallCounts.{Seen}
 use Rattle.aero_report.specs.declared.form.Form.{Form}
-use Rattle.aero_verdict.specs.Finding.{IsFinding}
+use Rattle.aero_judge.specs.Finding.{IsFinding}
 use Rattle.aero_model.specs.Terms.{Terms}
 use Rattle.aero_telling.specs.declared.cause.Cause.{Cause}
 use Rattle.aero_telling.specs.declared.notable.Notable.{Notable}

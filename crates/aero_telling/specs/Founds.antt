@@ -15,7 +15,7 @@ use Rattle.aero_telling.specs.declared.notable.Notable.{Notable}
 use Rattle.aero_intake.specs.declared.source.SourceOf.{SourceOf}
 use Rattle.aero_intake.specs.PlanTerms.{options_in}
 use Rattle.aero_intake.specs.Source.{Origin, Sight, WasRead, origin_in}
-use Rattle.aero_verdict.specs.Finding.{IsFinding}
+use Rattle.aero_judge.specs.Finding.{IsFinding}
 use Rattle.aero_model.specs.Terms.{Terms}
 
 -- a source at a moment, as contracts see it: its name, and its reader

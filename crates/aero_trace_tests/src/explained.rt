@@ -1,10 +1,10 @@
 use crate::model::terms_of;
 use crate::verdict::{parts_of, push_words};
 use aero_grammar::Parsed;
+use aero_judge::{Judge, judge_trace};
 use aero_model::{
     Cycle, CycleStep, CycleTransaction, Event, Extent, Finding, Limits, Name, Terms, Verdict,
 };
-use aero_verdict::{Judge, judge_trace};
 use std::alloc::Global;
 
 // The helpers below say that a row doesn't hold where memory is refused.

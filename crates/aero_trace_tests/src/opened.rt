@@ -1,8 +1,8 @@
 use crate::explained::text_of;
 use crate::model::terms_of;
 use crate::verdict::{parts_of, push_words};
+use aero_judge::judge_trace;
 use aero_model::{Finding, Limits, OpenBlock, Verdict};
-use aero_verdict::judge_trace;
 use std::alloc::{AllocError, Global};
 
 // The helpers below say that a row doesn't hold where memory is refused.

@@ -1,8 +1,9 @@
 use crate::model::terms_of;
 use crate::verdict::{parts_of, push_words};
 use aero_grammar::Parsed;
+use aero_judge::{Judge, judge_trace};
 use aero_model::{Except, Finding, Limits, Step, Terms, Verdict};
-use aero_verdict::{Judge, actor_at, judge_trace, serial_order};
+use aero_verdict::{actor_at, serial_order};
 use std::alloc::{AllocError, Global};
 
 // The helpers below say that a row doesn't hold where memory is refused.

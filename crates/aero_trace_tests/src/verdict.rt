@@ -1,9 +1,10 @@
 use crate::model::{except_of, terms_of};
 use aero_end::EndingClocks;
 use aero_grammar::{Parsed, parse_block};
+use aero_judge::Judge;
 use aero_model::{Except, Limits, Verdict};
 use aero_verdict::engine::Engine;
-use aero_verdict::{Judge, check_trace, check_trace_by};
+use aero_verdict::{check_trace, check_trace_by};
 use std::alloc::Global;
 
 // The helpers below say that a row doesn't hold where memory is refused.

@@ -179,6 +179,13 @@ tells_certain words rules fed lines checker verdict (is, keeps) =
       keeps_at = subst (λ ps. KeepsAt words.keeps rules ps checker verdict) (append-nil fed) (keeps []);
     }
 
+-- as far as a verdict is certain
+pub tells_so_far : {E : Type 0} (words : Words E) (rules : Rules) (fed : List Reading) (lines : ℕ) (checker : Checker E) (state : State) → FedSo words rules fed lines checker state →
+    IfSome (certain_of state) (TellsFed words rules fed checker)
+tells_so_far words rules fed lines checker Undecided so = tt
+tells_so_far words rules fed lines checker (Decided verdict) so = tells_certain words rules fed lines checker verdict so
+tells_so_far words rules fed lines checker Spent so = tt
+
 pub tells_too_many : {E : Type 0} (words : Words E) (rules : Rules) (fed : List Reading) (lines : ℕ) (checker : Checker E) → FedSo words rules fed lines checker Undecided → rules.limits.lines < lines →
     TellsFed words rules fed checker (Malformed (rules.limits.lines + 1) TooManyLines)
 tells_too_many words rules fed lines checker so more =

@@ -58,6 +58,10 @@ module _ (parts : List Reading) (rules : Rules) (checker : Checker InOrder) (tra
   right_with_lines wanted (Ok v) same = λ yes_it_is. sym same ∙ yes_it_is
   right_with_lines wanted (Err e) same = tt
 
+  pub owned : {X : Type 0} (verdict : Result Verdict AllocError) → IfOk verdict Tells → (told : Result (Verdict × X) AllocError) → IfOk told (λ t. verdict ≡ Ok t.0) → IfOk told (λ t. HasOwnFault t.0)
+  owned verdict tells (Ok t) is = (subst (λ r. IfOk r Tells) is tells).on.own_fault
+  owned verdict tells (Err e) is = tt
+
   -- where the order is wanted, nothing is wrong
   module _ (verdict : Result Verdict AllocError) (tells : IfOk verdict Tells) (wanted : Bool) (right : IfOk verdict (λ v. wanted ≡ true → is_faultless v ≡ true)) (never : OnErr verdict (wanted ≡ false)) where
     gathered : wanted ≡ true → AreGathered rules parts transactions numbering
@@ -130,10 +134,6 @@ module _ (parts : List Reading) (rules : Rules) (checker : Checker InOrder) (tra
         λ some. (let yes_it_is = are.only some in (same_faultless parts rules w v told its.on.is_verdict ∙ its_right yes_it_is, (exact found are yes_it_is).0 some)),
         λ (right_too, none). (exact found are (same ∙ same_faultless parts rules v w its.on.is_verdict told ∙ right_too)).1 none,
       )
-
-    pub owned : {X : Type 0} (told : Result (Verdict × X) AllocError) → IfOk told (λ t. verdict ≡ Ok t.0) → IfOk told (λ t. HasOwnFault t.0)
-    owned (Ok t) is = (its t.0 is).on.own_fault
-    owned (Err e) is = tt
 
     -- the answer that is made of the verdict and the first events
     module _ (firsts : Result (Option (Vec First Global)) AllocError) (are : IfOk firsts (λ found. AreFirstsInOrder transactions wanted (option_map (λ (fs : Vec First Global). fs.items) found))) where

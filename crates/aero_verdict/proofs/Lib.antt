@@ -4,17 +4,7 @@ pub mod KnownLines
 pub mod Targets
 pub mod Judged
 pub mod Givens
-pub mod Recording
-pub mod Zipped
-pub mod Said
-pub mod ReadAt
-pub mod Showing
-pub mod Rising
-pub mod Spanning
-pub mod Keeping
-pub mod Explaining
-pub mod Opening
-pub mod SameVerdict
+pub mod Rounds
 pub mod Staying
 pub mod Steps
 pub mod Lines
@@ -31,8 +21,4 @@ pub mod OnLines
 pub mod BlockEvents
 pub mod FirstEvents
 pub mod Gathered
-pub mod PartOf
-pub mod Together
 pub mod Vectors
-pub mod Sweeping
-pub mod Forgetting

@@ -16,6 +16,12 @@ use Rattle.aero_verdict.specs.Parts.{AreBefore, greatest_number}
 use Rattle.aero_verdict.specs.Verdict.{counted_events, events_of, read_trace, checked_trace}
 use Rattle.aero_model.specs.Terms.{Rules}
 
+-- a list ends before the places at which it has nothing
+pub none_past : {X : Type 0} (xs : List X) (i : ℕ) → slice_get xs i ≡ None → length xs ≤ i
+none_past [] i none = omega arith
+none_past (x ∷ xs) zero none = absurd (cc)
+none_past (x ∷ xs) (suc i) none = let h = none_past xs i none in omega (arith, h)
+
 -- one part, and those after it
 
 pub after_faulty : (p r : Reading) → is_some p.fault ≡ true → followed_by p r ≡ p

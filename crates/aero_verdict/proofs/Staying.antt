@@ -41,9 +41,8 @@ use Rattle.aero_verdict.specs.Parts.{KeepsAt}
 use Rattle.aero_verdict.specs.Standing.{names_of, marked_in, AreGiven}
 use Rattle.aero_verdict.specs.Verdict.{counted_events, read_trace, checked_trace, HasName, IsOnLine, IsViolation, IsVerdict}
 use Rattle.aero_model.specs.Terms.{Rules}
-use Rattle.aero_verdict.proofs.Explaining.{round_within, enters_within}
-use Rattle.aero_verdict.proofs.Keeping.{none_past}
-use Rattle.aero_verdict.proofs.Readings.{begins_with, slice_get_front}
+use Rattle.aero_verdict.proofs.Readings.{begins_with, slice_get_front, none_past}
+use Rattle.aero_verdict.proofs.Rounds.{round_within, enters_within}
 use Rattle.aero_verdict.proofs.Steps.{take_pushed, front_and_rest}
 use Rattle.aero_verdict.proofs.Stops.{named_still}
 use Rattle.aero_verdict.proofs.ThreadNames.{was, was_at, in_first}

@@ -1,9 +1,11 @@
 -- For which events an `InOrder` stands: those for which both its parts do. Of those that it was given it keeps the first one of each transaction.
-use Rattle.std.specs.Prelude.{◌≡◌, ◌↔◌, Bool, true, List, [], length, map, slice_index_or, All, Option, is_some, IfSome}
+use Rattle.std.specs.Prelude.{◌≡◌, ◌↔◌, Bool, true, List, [], length, map, slice_index_or, All, Option, Result, is_some, IfOk, IfSome}
+use Rattle.std.specs.declared.alloc.AllocError.{AllocError}
 use Rattle.aero_model.specs.declared.numbered.Numbered.{Numbered}
 use Rattle.aero_model.specs.declared.verdict.Step.{Step}
+use Rattle.aero_model.specs.declared.verdict.Verdict.{Verdict}
 use Rattle.aero_grammar.specs.Reading.{Reading}
-use Rattle.aero_engine.specs.Given.{Given}
+use Rattle.aero_engine.specs.Given.{Given, words_of}
 use Rattle.aero_leads.specs.Standing as leads
 use Rattle.aero_model.specs.Cycle.{IsSerializable}
 use Rattle.aero_model.specs.Serial.{IsSerialOrder}
@@ -12,10 +14,12 @@ use Rattle.aero_order.specs.Came.{Came, places_in, IsOf}
 use Rattle.aero_order.specs.Standing as orders
 use Rattle.aero_order.specs.declared.first.First.{First}
 use Rattle.aero_order.specs.declared.transactions.Transactions.{Transactions}
+use Rattle.aero_verdict.specs.declared.checker.Checker.{Checker}
 use Rattle.aero_verdict.specs.declared.in_order.InOrder.{InOrder}
 use Rattle.aero_verdict.specs.declared.numbering.Numbering.{Numbering}
 use Rattle.aero_verdict.specs.Standing.{KeepsFirst}
 use Rattle.aero_verdict.specs.Limited.{names_in}
+use Rattle.aero_verdict.specs.Monitored.{TellsFed}
 use Rattle.aero_verdict.specs.Parts.{NamesAll}
 use Rattle.aero_verdict.specs.Verdict.{counted_events, checked_trace}
 use Rattle.aero_model.specs.Terms.{Rules}
@@ -38,6 +42,13 @@ pub record AreGathered (rules : Rules) (parts : List Reading) (transactions : Tr
   pub stands_for : orders.StandsFor transactions (checked_trace parts rules)
   pub firsts : KeepsFirst KeepsFirsts rules (counted_events parts rules) (length (counted_events parts rules)) transactions
   pub names : NamesAll rules parts numbering
+
+-- A checker with these names and these transactions tells the verdict on these parts, if there is one.
+pub record IsGathered (parts : List Reading) (rules : Rules) (numbering : Numbering) (transactions : Transactions) (verdict : Result Verdict AllocError) : Type 0 where
+  pub checker : Checker InOrder
+  pub transactions_are : transactions ≡ checker.engine.transactions
+  pub names_are : numbering ≡ checker.numbering
+  pub tells : IfOk verdict (TellsFed (words_of StandsForBoth KeepsInOrder) rules parts checker)
 
 -- These are the first events of the transactions in the serial order, if it is wanted. There are none exactly where it isn't, or there is a cycle.
 pub record AreFirstsInOrder (transactions : Transactions) (wanted : Bool) (found : Option (List First)) : Type 0 where

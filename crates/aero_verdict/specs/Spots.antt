@@ -1,11 +1,10 @@
--- The events of a part by their places in it, and the words of one.
-use Rattle.std.specs.Prelude.{ℕ, ◌<◌, List, length, slice_get, Option, Some, None, option_map, option_copied}
+-- The events of a part by their places in it.
+use Rattle.std.specs.Prelude.{ℕ, ◌<◌, List, length, slice_get, Option, Some, None, option_map}
 use Rattle.aero_model.specs.declared.numbered.What.{What}
 use Rattle.aero_model.specs.declared.numbered.What.TheVariants.{Read, Write, Acquire, Release, Fork, Join, Begin, End, Exempt}
 use Rattle.aero_model.specs.Named.{Named}
 use Rattle.aero_model.specs.Numbering.{Tables}
 use Rattle.aero_grammar.specs.Reading.{Reading}
-use Rattle.aero_verdict.specs.declared.event_words.EventWords.{EventWords}
 use Rattle.aero_verdict.specs.declared.on_line.Spot.{Spot}
 
 -- the event at this place, if there is one
@@ -14,10 +13,6 @@ named_at part place = option_map (λ e. e.1) (slice_get part.events place)
 
 abbrev pub named_spot : Spot → Option Named
 named_spot spot = named_at spot.part.now spot.place
-
--- the event that has these words
-abbrev pub named_words : EventWords → Named
-named_words w = record { thread = w.thread.now; op = w.op; target = option_copied w.target }
 
 -- the name of the target, or the label, if there is one, is in its table
 abbrev pub HasTarget : Tables → List (List ℕ) → What → Type 0

@@ -24,13 +24,15 @@ pub(crate) enum Stop {
     Closed(u32),
 }
 
-// What is kept of the events that were admitted: their names, what they make of each thread and
-// lock, the engine that judges them, and their outermost blocks.
+/// What is kept of the events that were admitted: their names, what they make of each thread and
+/// lock, the engine that judges them, and their outermost blocks.
 #[derive(Drop)]
-pub(crate) struct Checker<E: Engine> {
-    numbering: Numbering,
+pub struct Checker<E: Engine> {
+    /// The names of the events.
+    pub numbering: Numbering,
     shape: Shape,
-    engine: E,
+    /// What judges the events, and what it keeps of them.
+    pub engine: E,
     blocks: Blocks,
 }
 
@@ -75,8 +77,8 @@ impl<E: Engine> Checker<E> {
         }
     }
 
-    // Its names and its engine.
-    pub(crate) fn into_parts(self) -> (Numbering, E)
+    /// The names of the events, and the engine that judged them.
+    pub fn into_parts(self) -> (Numbering, E)
         ensures names { result.0 ≡ self.numbering }
         ensures engine { result.1 ≡ self.engine }
     {
@@ -87,19 +89,6 @@ impl<E: Engine> Checker<E> {
             blocks: _,
         } = self;
         (numbering, engine)
-    }
-
-    // The same of a checker that goes on.
-    pub(crate) fn names(&self) -> &Numbering
-        ensures { result.now ≡ self.now.numbering }
-    {
-        &self.numbering
-    }
-
-    pub(crate) fn engine(&self) -> &E
-        ensures { result.now ≡ self.now.engine }
-    {
-        &self.engine
     }
 
     // How many events were admitted.

@@ -13,7 +13,7 @@
 //! ```
 //!
 //! `Monitor` is the same check of a trace that comes part by part, and `monitor` shows how a program judges
-//! events with it that it sees.
+//! events with it that it sees. What shows a verdict is found above, in aero_judge.
 //!
 //! # What is proved
 //!
@@ -32,22 +32,15 @@
 //! - `check_trace`, `check_trace_by` and `serial_order` feed their parts to a monitor: `feed_all`.
 //! - There is a serial order exactly if the verdict is `Serializable` or `Pending` and the graph has no cycle. It is
 //!   returned by the lines of first events: `serial_order`, `exact`, `serializable`, `lines`.
-//! - A `Judge` finds what its terms ask for of the parts that it was fed, though none was kept, and `judge_trace` finds the
-//!   same of parts at once: the verdict, and no fault of it is want of memory. If the order is asked for, the transactions
-//!   come with a verdict `Serializable`, in the serial order, each by the line and the thread of its first event. If the
-//!   verdict is to be explained, a telling cycle comes with `Violation`, and the first 64 open blocks with `Pending`:
-//!   `Judge::new`, `feed`, `feed_all`, `finish`, `finding`, `own_fault`; `judge_trace`.
-//! - The cycle is one of the events up to the closing one, begins in the block that the verdict names, and none from there
-//!   has fewer visits. Each event comes with its line and that of the first event of its transaction. With them come the
-//!   transactions of the cycle, each with its thread, its line, and as a block with its label and, if it has ended, the line
-//!   of its end, and the closing event. Each open block comes with its thread, and with the line and the label of its begin,
-//!   in the order of their begins: `IsTraceFinding`.
-//! - A judge that is to explain shows a violation as soon as it is certain, and goes on: `Judge::explain`.
+//! - With the verdict a monitor gives what judged the events: the names are theirs, and the engine stands for them and
+//!   keeps them, up to one that closes a cycle. The same of a verdict that is certain: `into_verdict`, `tells`; `checker`.
+//! - If it keeps transactions, they come with a verdict `Serializable`, in the serial order, each by the line and the
+//!   thread of its first event: `finish_in_order`, `told`, `own_fault`. `steps_in_order` finds the same of the
+//!   transactions that another engine kept: `told`, `same`.
 //! - The actor of the event on a line is returned, whatever the limits, if there is one: `actor_at`.
-//! - `InOrder`, first places with the transactions, `Recorder`, with the events, and `InFull`, with both, are engines too: of
-//!   the events that each is given it tells what the definitions say. By `Engine::judge`, `told`.
-//! - They keep something of each event that they are given, also of the one that closes a cycle: `InOrder` the line and
-//!   the thread of each transaction's first event, `Recorder` each event with its line and its label, `InFull` both. By
+//! - `InOrder`, first places with the transactions, is an engine too: of the events that it is given it tells what the
+//!   definitions say. By `Engine::judge`, `told`.
+//! - It keeps the line and the thread of the first event of each transaction, also of the event that closes a cycle. By
 //!   `Engine::judge`, `kept`.
 //! - All parts have exactly one verdict. `Serializable` means that there is no cycle at all, a violation that there is
 //!   one, and with open blocks each cycle passes two of them: `laws`.
@@ -57,32 +50,22 @@ mod actor;
 mod blocks;
 mod check;
 mod checker;
-mod event_words;
-mod explained;
 mod first_steps;
-pub mod full;
 mod ghost_parts;
 pub mod in_order;
-pub mod judge;
 mod known;
 pub mod laws;
 pub mod monitor;
-mod named;
+pub mod named;
 mod numbering;
 mod on_line;
-mod opened;
-pub mod recorder;
 mod serial;
-mod shown;
-mod spans;
-mod sweep;
 
 pub use actor::actor_at;
 pub use aero_engine::engine;
 pub use check::{check_trace, check_trace_by};
-pub use full::InFull;
+pub use checker::Checker;
 pub use in_order::InOrder;
-pub use judge::{Judge, judge_trace};
 pub use monitor::{Monitor, feed_all};
-pub use recorder::Recorder;
-pub use serial::serial_order;
+pub use numbering::Numbering;
+pub use serial::{serial_order, steps_in_order};

@@ -71,7 +71,7 @@ use std::marker::Model;
 
 // How far a check is.
 #[derive(Drop)]
-pub(crate) enum State {
+enum State {
     // Nothing is wrong yet.
     Undecided,
     // This is the verdict, whatever comes.
@@ -90,10 +90,10 @@ pub(crate) enum State {
 pub struct Monitor<E: Engine> {
     pub(crate) alloc: Global,
     limits: Limits,
-    pub(crate) checker: Checker<E>,
+    checker: Checker<E>,
     // The lines of the parts so far, up to the one that decides. A number that a `u32` can't tell is past every limit.
     lines: u32,
-    pub(crate) state: State,
+    state: State,
     fed: GhostParts,
 }
 
@@ -189,6 +189,17 @@ impl<E: Engine> Monitor<E> {
         }
     }
 
+    /// What judged the events of the parts that were fed. If a violation is certain, it keeps those up to the one with
+    /// which the cycle closes.
+    pub fn checker(&self) -> &Checker<E>
+        ensures tells { IfSome self.now.certain (TellsFed (words_of E.stands_for E.keeps)
+            self.now.rules self.now.parts result.now) }
+        ensures readings { All IsReading self.now.parts }
+        ensures few { self.now.rules.limits.lines ≤ 4000000000 }
+    {
+        &self.checker
+    }
+
     /// The verdict on exactly the parts that were fed.
     ///
     /// # Errors
@@ -203,8 +214,13 @@ impl<E: Engine> Monitor<E> {
         verdict
     }
 
-    // The same, with the checker.
-    pub(crate) fn into_verdict(self) -> (Result<Verdict, AllocError>, Checker<E>)
+    /// The verdict on exactly the parts that were fed, with what judged their events. It keeps all of them if nothing is
+    /// wrong, and those up to the one with which the cycle closes if the verdict is a violation.
+    ///
+    /// # Errors
+    ///
+    /// `AllocError` in place of the verdict if memory was refused.
+    pub fn into_verdict(self) -> (Result<Verdict, AllocError>, Checker<E>)
         ensures tells { IfOk result.0 (TellsFed (words_of E.stands_for E.keeps) self.rules
             self.parts result.1) }
         ensures readings { All IsReading self.parts }

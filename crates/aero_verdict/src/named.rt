@@ -6,9 +6,12 @@ ghost use Rattle.aero_model.specs.Names.{most_inline_bytes};
 use aero_model::{Name, NameFault};
 use std::alloc::{AllocError, Global};
 
-// The name with these bytes, which takes no memory up to 16 of them. An error says that memory was
-// refused to a longer one.
-pub(crate) fn named(alloc: Global, bytes: &[u8]) -> Result<Name, AllocError>
+/// The name with these bytes, which takes no memory up to 16 of them.
+///
+/// # Errors
+///
+/// `AllocError` if memory was refused to a longer one.
+pub fn named(alloc: Global, bytes: &[u8]) -> Result<Name, AllocError>
     requires { IsName bytes.now }
     ensures name { IfOk result (λ name. name ≡ bytes.now) }
     ensures long { OnErr result (most_inline_bytes < length bytes.now) }

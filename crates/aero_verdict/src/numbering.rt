@@ -9,11 +9,14 @@ use aero_model::{Limits, Name, Numbered, ShapeFault, What};
 use aero_names::Names;
 use std::alloc::{AllocError, Global};
 
-// The names of the events so far.
+/// The names of the events so far. An event that was numbered has the numbers that they have here.
 #[derive(Drop)]
-pub(crate) struct Numbering {
+pub struct Numbering {
+    /// Those of threads.
     pub threads: Names,
+    /// Those of variables.
     pub variables: Names,
+    /// Those of locks.
     pub locks: Names,
 }
 

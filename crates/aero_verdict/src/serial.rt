@@ -3,12 +3,13 @@ ghost use Rattle.std.specs.Prelude.{◌≡◌, ◌↔◌, ℕ, true, false, List
 ghost use Rattle.aero_model.specs.declared.numbered.Numbered.{Numbered};
 ghost use Rattle.aero_model.specs.declared.verdict.Verdict.{Verdict};
 ghost use Rattle.aero_model.specs.Cycle.{IsSerializable};
+ghost use Rattle.aero_grammar.specs.Reading.{Reading};
 ghost use Rattle.aero_order.specs.Standing.{StandsFor};
-ghost use Rattle.aero_verdict.specs.InOrder.{AreFirstsInOrder, step_in};
+ghost use Rattle.aero_verdict.specs.InOrder.{AreFirstsInOrder, IsGathered, step_in};
 ghost use Rattle.aero_verdict.specs.Limited.{IsNamedThread};
-ghost use Rattle.aero_verdict.specs.Ordered.{is_faultless, has_order, AreLinesInOrder};
+ghost use Rattle.aero_verdict.specs.Ordered.{is_faultless, has_order, AreLinesInOrder, TellsInOrder};
 ghost use Rattle.aero_verdict.specs.Verdict.{IsVerdict, checked_trace};
-ghost use Rattle.aero_model.specs.Terms.{under};
+ghost use Rattle.aero_model.specs.Terms.{Rules, under};
 
 use crate::first_steps::{lines_of, steps_of};
 use crate::in_order::InOrder;
@@ -58,9 +59,13 @@ impl Monitor<InOrder> {
     ghost use Rattle.aero_verdict.specs.Ordered.{is_faultless, AreLinesInOrder, TellsInOrder};
     ghost use Rattle.aero_verdict.specs.Verdict.{IsVerdict, checked_trace};
 
-    // The verdict on exactly the parts that were fed. If it is `Serializable`, the transactions come with it in the serial
-    // order, each by the line and the thread of its first event. An `AllocError` says that memory was refused.
-    pub(crate) fn finish_in_order(self) -> Result<(Verdict, Option<Vec<Step>>), AllocError>
+    /// The verdict on exactly the parts that were fed. If it is `Serializable`, the transactions come with it in the serial
+    /// order, each by the line and the thread of its first event.
+    ///
+    /// # Errors
+    ///
+    /// `AllocError` if memory was refused.
+    pub fn finish_in_order(self) -> Result<(Verdict, Option<Vec<Step>>), AllocError>
         ensures told { IfOk result (λ told. TellsInOrder self.parts self.rules told.0
             (option_map (λ steps. steps.items) told.1)) }
         ensures own_fault { IfOk result (λ told. HasOwnFault told.0) }
@@ -68,9 +73,7 @@ impl Monitor<InOrder> {
         let alloc = self.alloc;
         let (verdict, checker) = self.into_verdict();
         let (numbering, both) = checker.into_parts();
-        let wanted = is_ordered(&verdict);
-        let firsts = firsts_where(alloc, both.into_transactions(), wanted);
-        steps_told(alloc, &numbering, verdict, firsts)
+        steps_in_order(alloc, &numbering, both.into_transactions(), verdict)
     }
 
     // The lines of the first events in the serial order, where nothing is wrong and there is no cycle.
@@ -94,8 +97,33 @@ impl Monitor<InOrder> {
     }
 }
 
+/// The verdict, where these are the names and the transactions of the events that it is on. If it is `Serializable`, the
+/// transactions come with it in the serial order, each by the line and the thread of its first event.
+///
+/// # Errors
+///
+/// `AllocError` if memory was refused, or if one stands for the verdict.
+pub fn steps_in_order(
+    alloc: Global,
+    numbering: &Numbering,
+    transactions: Transactions,
+    verdict: Result<Verdict, AllocError>,
+) -> Result<(Verdict, Option<Vec<Step>>), AllocError>
+    requires { (parts : List Reading) × (rules : Rules) ×
+        IsGathered parts rules numbering.now transactions verdict }
+    ensures told { (parts : List Reading) (rules : Rules) →
+        IsGathered parts rules numbering.now transactions verdict →
+        IfOk result (λ told. TellsInOrder parts rules told.0
+        (option_map (λ steps. steps.items) told.1)) }
+    ensures same { IfOk result (λ told. verdict ≡ Ok told.0) }
+{
+    let wanted = is_ordered(&verdict);
+    let firsts = firsts_where(alloc, transactions, wanted);
+    steps_told(alloc, numbering, verdict, firsts)
+}
+
 // The first events of the transactions in the serial order, where it is wanted and there is one.
-pub(crate) fn firsts_where(
+fn firsts_where(
     alloc: Global,
     transactions: Transactions,
     wanted: bool,
@@ -111,7 +139,7 @@ pub(crate) fn firsts_where(
 }
 
 // The verdict, with the lines and the threads' names of the first events.
-pub(crate) fn steps_told(
+fn steps_told(
     alloc: Global,
     numbering: &Numbering,
     verdict: Result<Verdict, AllocError>,
@@ -161,7 +189,7 @@ fn is_right(verdict: &Result<Verdict, AllocError>) -> bool
 }
 
 // Whether there is a verdict with which the order goes.
-pub(crate) fn is_ordered(verdict: &Result<Verdict, AllocError>) -> bool
+fn is_ordered(verdict: &Result<Verdict, AllocError>) -> bool
     ensures ok { IfOk verdict.now (λ told. result ≡ has_order true told) }
     ensures err { OnErr verdict.now (result ≡ false) }
 {

@@ -1,5 +1,5 @@
 use Rattle.aero_intake.specs.PlanTerms.{terms_of}
-use Rattle.aero_verdict.specs.Judging.{judging_of}
+use Rattle.aero_judge.specs.Judging.{judging_of}
 use Rattle.aero_intake.proofs.AloneSteps.{begun_alone}
 use Rattle.aero_intake.proofs.alone.judge_source.Goals as goal
 

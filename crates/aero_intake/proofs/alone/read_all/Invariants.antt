@@ -3,7 +3,7 @@ use Rattle.std.proofs.Common.{◌≡◌, None}
 use Rattle.aero_intake.specs.Alone.{MayRead, StandsAlone}
 use Rattle.aero_intake.specs.PlanTerms.{terms_of}
 use Rattle.aero_intake.specs.Source.{origin_in}
-use Rattle.aero_verdict.specs.Judging.{judging_of}
+use Rattle.aero_judge.specs.Judging.{judging_of}
 use Rattle.aero_intake.proofs.alone.read_all.Given as goal
 
 abbrev pub invariant-reads : goal.invariant-reads

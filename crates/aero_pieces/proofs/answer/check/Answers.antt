@@ -1,6 +1,6 @@
 use Rattle.std.proofs.Common.{◌∙◌, ap, subst}
 use Rattle.aero_model.specs.Terms.{Terms, asking, to_the_end}
-use Rattle.aero_verdict.specs.Finding.{IsTraceFinding}
+use Rattle.aero_judge.specs.Finding.{IsTraceFinding}
 use Rattle.aero_pieces.proofs.answer.check.Goals as goal
 
 pub returns : goal.returns

@@ -2,7 +2,7 @@ use Rattle.std.proofs.Common.{◌≡◌, false, subst}
 use Rattle.std.specs.Prelude.{IfOk}
 use Rattle.std.proofs.lemmas.Result.{IfOk-weaker}
 use Rattle.aero_feed.specs.Feeding.{Feeding, ShowsText}
-use Rattle.aero_verdict.specs.Judging.{judging_of}
+use Rattle.aero_judge.specs.Judging.{judging_of}
 use Rattle.aero_feed.proofs.Texts.{told_shown}
 use Rattle.aero_feed.proofs.text_monitor.TextMonitor.explain.Goals as goal
 

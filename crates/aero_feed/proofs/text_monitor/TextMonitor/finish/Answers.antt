@@ -2,7 +2,7 @@ use Rattle.std.proofs.Common.{subst}
 use Rattle.std.specs.Prelude.{IfOk}
 use Rattle.std.proofs.lemmas.Result.{IfOk-weaker}
 use Rattle.aero_feed.specs.Feeding.{Feeding, IsTextVerdict}
-use Rattle.aero_verdict.specs.Judging.{judging_of}
+use Rattle.aero_judge.specs.Judging.{judging_of}
 use Rattle.aero_feed.proofs.Texts.{judged_out}
 use Rattle.aero_feed.proofs.text_monitor.TextMonitor.finish.Goals as goal
 

@@ -1,7 +1,7 @@
 use Rattle.std.proofs.Common.{◌≡◌, ◌∙◌, false, sym, subst}
 use Rattle.aero_model.specs.Lines.{EndsLine}
 use Rattle.aero_feed.specs.Feeding.{Feeding, IsOpenText}
-use Rattle.aero_verdict.specs.Judging.{judging_of}
+use Rattle.aero_judge.specs.Judging.{judging_of}
 use Rattle.aero_feed.proofs.Texts.{told_right}
 use Rattle.aero_feed.proofs.text_monitor.TextMonitor.is_certain.Goals as goal
 

@@ -1,6 +1,6 @@
-use Rattle.std.proofs.Common.{◌≡◌, [], sym, ap, subst, ◌∙◌}
+use Rattle.std.proofs.Common.{◌≡◌, [], sym, ap, subst}
 use Rattle.aero_model.specs.Terms.{to_the_end}
-use Rattle.aero_verdict.specs.Judging.{Judging, judging_of, nothing_judged}
+use Rattle.aero_judge.specs.Judging.{Judging, judging_of, nothing_judged}
 use Rattle.aero_feed.specs.Reads.{StandsAt}
 use Rattle.aero_feed.proofs.Texts.{stands_first}
 use Rattle.aero_feed.proofs.text_monitor.TextMonitor.new.Goals as goal

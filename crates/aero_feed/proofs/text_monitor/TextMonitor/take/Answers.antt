@@ -2,7 +2,7 @@ use Rattle.std.proofs.Common.{◌≡◌, true, false, refl, sym, ◌∙◌, ◌+
 use Rattle.std.specs.Prelude.{is_some}
 use Rattle.aero_model.specs.Terms.{Terms}
 use Rattle.aero_feed.specs.Reads.{StandsAt}
-use Rattle.aero_verdict.specs.Judging.{judging_of}
+use Rattle.aero_judge.specs.Judging.{judging_of}
 use Rattle.aero_feed.proofs.Texts.{stands_sure, stands_more, none_of, on_ok}
 use Rattle.aero_feed.proofs.text_monitor.TextMonitor.take.Goals as goal
 

@@ -2,7 +2,7 @@ use Rattle.std.proofs.Common.{◌∙◌, Some, subst}
 use Rattle.std.proofs.lemmas.Result.{IfOk-weaker}
 use Rattle.aero_model.specs.declared.verdict.Ending.TheVariants.{Whole}
 use Rattle.aero_intake.specs.Alone.{IsFoundIn, found_so}
-use Rattle.aero_verdict.specs.Judging.{judging_of}
+use Rattle.aero_judge.specs.Judging.{judging_of}
 use Rattle.aero_intake.proofs.AloneSteps.{found_whole}
 use Rattle.aero_intake.proofs.alone.SoFar.finding_of_all.Goals as goal
 

@@ -1,6 +1,6 @@
 use Rattle.std.proofs.Common.{◌∙◌, inr, sym, ap}
 use Rattle.aero_model.specs.Terms.{Terms}
-use Rattle.aero_verdict.specs.Judging.{judging_of}
+use Rattle.aero_judge.specs.Judging.{judging_of}
 use Rattle.aero_intake.proofs.Decisive.{some_certain_decides}
 use Rattle.aero_intake.proofs.alone.SoFar.has_enough.Goals as goal
 

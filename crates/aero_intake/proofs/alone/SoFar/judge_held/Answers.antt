@@ -4,7 +4,7 @@ use Rattle.std.proofs.lemmas.Result.{on_ok_weaker}
 use Rattle.aero_grammar.specs.Reading.{reading_of}
 use Rattle.aero_intake.specs.Alone.{StandsAlone}
 use Rattle.aero_intake.specs.Intake.{Taking}
-use Rattle.aero_verdict.specs.Judging.{judging_of}
+use Rattle.aero_judge.specs.Judging.{judging_of}
 use Rattle.aero_intake.proofs.AloneSteps.{cut_stands, pass_stands}
 use Rattle.aero_intake.proofs.alone.SoFar.judge_held.Goals as goal
 

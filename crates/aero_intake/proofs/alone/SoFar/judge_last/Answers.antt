@@ -3,7 +3,7 @@ use Rattle.std.specs.Prelude.{option_to_list}
 use Rattle.std.proofs.lemmas.Result.{on_ok_weaker}
 use Rattle.aero_grammar.specs.Reading.{reading_of}
 use Rattle.aero_lines.specs.Cutting.{last_block}
-use Rattle.aero_verdict.specs.Judging.{judging_of}
+use Rattle.aero_judge.specs.Judging.{judging_of}
 use Rattle.aero_intake.proofs.AloneSteps.{last_judged, last_passed}
 use Rattle.aero_intake.proofs.alone.SoFar.judge_last.Goals as goal
 

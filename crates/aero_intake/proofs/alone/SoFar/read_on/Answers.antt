@@ -3,7 +3,7 @@ use Rattle.aero_model.specs.declared.verdict.Ending.TheVariants.{Stopped}
 use Rattle.aero_intake.specs.Alone.{StandsAlone}
 use Rattle.aero_intake.specs.Intake.{Taking}
 use Rattle.aero_intake.specs.PlanTerms.{terms_of}
-use Rattle.aero_verdict.specs.Judging.{judging_of}
+use Rattle.aero_judge.specs.Judging.{judging_of}
 use Rattle.aero_intake.proofs.AloneSteps.{stop_stands}
 use Rattle.aero_intake.proofs.alone.SoFar.read_on.Goals as goal
 

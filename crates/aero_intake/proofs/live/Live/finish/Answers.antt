@@ -1,8 +1,8 @@
 use Rattle.std.proofs.Common.{◌≡◌, ◌∙◌, ap, subst}
 use Rattle.std.specs.Prelude.{IfOk}
 use Rattle.aero_intake.specs.Lives.{Watched}
-use Rattle.aero_verdict.specs.Judging.{Judging, judging_of}
-use Rattle.aero_verdict.specs.Finding.{IsTraceFinding}
+use Rattle.aero_judge.specs.Judging.{Judging, judging_of}
+use Rattle.aero_judge.specs.Finding.{IsTraceFinding}
 use Rattle.aero_intake.proofs.live.Live.finish.Goals as goal
 
 pub returns : goal.returns

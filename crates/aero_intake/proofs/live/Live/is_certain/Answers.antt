@@ -1,7 +1,7 @@
 use Rattle.std.proofs.Common.{subst}
 use Rattle.std.specs.Prelude.{IfSome}
 use Rattle.aero_intake.specs.Lives.{Watched}
-use Rattle.aero_verdict.specs.Judging.{Judging, judging_of}
+use Rattle.aero_judge.specs.Judging.{Judging, judging_of}
 use Rattle.aero_intake.proofs.Decisive.{certain_longer}
 use Rattle.aero_verdict.specs.Fed.{IsCertain}
 use Rattle.aero_intake.proofs.live.Live.is_certain.Goals as goal

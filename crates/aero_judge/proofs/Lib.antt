@@ -1,0 +1,15 @@
+pub mod Recording
+pub mod Zipped
+pub mod Said
+pub mod ReadAt
+pub mod Showing
+pub mod Rising
+pub mod Spanning
+pub mod Keeping
+pub mod Explaining
+pub mod Opening
+pub mod SameVerdict
+pub mod PartOf
+pub mod Together
+pub mod Sweeping
+pub mod Forgetting

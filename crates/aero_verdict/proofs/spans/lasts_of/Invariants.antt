@@ -1,6 +1,0 @@
-use Rattle.aero_verdict.specs.Spans.{AreLastsTo}
-use Rattle.aero_verdict.proofs.spans.lasts_of.Given as goal
-
--- the last places among the events so far
-abbrev pub invariant-loop-place : goal.invariant-loop-place
-invariant-loop-place l = AreLastsTo l.firsts l.place l.lasts.items
