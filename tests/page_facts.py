@@ -9,7 +9,7 @@
   must be those that tools/completions writes.
 - Each file that a page names must exist, and so must each name that a page gives as a crate's: a path such as
   `aero_batch::run::run`; a name after the crate's, such as aero_intake `Live`; and each name in backquotes in a row of a table
-  that begins with a crate's name.
+  that begins with a crate's name. A page that counts the repository's crates, as "the 37 crates" or "all 37 crates", must count them right.
 - The recipes of CONTRIBUTING.md for a new option and for a new fault of an event must name each file that contains the option
   --fail-open or the fault JoinSelf.
 - Some habits make sentences hard to read (HABITS, below). A page may have each habit at most as often as ALLOWED says, and a page
@@ -209,6 +209,9 @@ def look_for_names(page, tally):
     for its, name in names_in(page):
         there = any(os.path.isdir(f"{TOP}/crates/{crate}") and CRATES.has(crate, name) for crate in its)
         tally.note(there, f"{page}: {' and '.join(its)} has no {name}")
+    for count in re.findall(r"\b(?:[Aa]ll|[Tt]he)\s+(\d+)\s+crates\b", text):
+        there = len(glob.glob(f"{TOP}/crates/*/src"))
+        tally.note(int(count) == there, f"{page}: there are {there} crates, and not {count}")
 
 
 def files_in(recipe):
