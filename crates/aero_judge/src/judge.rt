@@ -124,6 +124,12 @@ impl Judge {
             (IsCertain (judging_of self.new).parts (judging_of self.new).terms.rules) }
         ensures going_on { IfOk result (λ is_certain. is_certain ≡ false →
             IsOpen (judging_of self.new).parts (judging_of self.new).terms.rules) }
+        ensures stays { IfSome (judging_of self.old).certain
+            (λ verdict. (judging_of self.new).certain ≡ Some verdict) }
+        ensures stays_spent { (judging_of self.old).is_spent ≡ true →
+            (judging_of self.new).is_spent ≡ true }
+        ensures refused { OnErr result ((judging_of self.new).is_spent ≡ false →
+            judging_of self.new ≡ judging_of self.old) }
     {
         let part = parse_block(alloc, text)?;
         self.feed(&part, except)
