@@ -104,11 +104,11 @@ fn says_alone(alloc: Global, line: &[u8], wanted: &[u8]) -> bool {
     push_line(alloc, &mut words, line) && words.as_bytes() == wanted
 }
 
-// The line as the first of a block that goes on with 64 lines that are empty.
+// The line as the first of a block that goes on with 320 lines that are empty, so that many of its bytes are looked at at once.
 fn block_of(alloc: Global, line: &[u8]) -> Option<Parsed> {
     let mut text = Vec::new(alloc);
     text.extend_from_slice(line).ok()?;
-    text.extend_from_slice(&[b'\n'; 64]).ok()?;
+    text.extend_from_slice(&[b'\n'; 320]).ok()?;
     parsed(alloc, &text)
 }
 
@@ -269,15 +269,21 @@ fn long_names_and_lines_meet_their_limits(rt: HostRuntime) {
     assert_eq!(rt; first_misread_of_long(rt.alloc(), &LONG), None);
 }
 
-// The first length of names from 1 to 255 that aren't read, or 256 if they are.
+// Whether names of so many bytes are read, at a line's end and before a place, or are too long.
+fn is_length_read(alloc: Global, count: usize) -> bool {
+    let wanted = if count == 256 {
+        "NameTooLong"
+    } else {
+        "# Read #"
+    };
+    says_filled(alloc, &("#|r(#)", b'a', count, wanted)) == Some(true)
+        && says_filled(alloc, &("#|r(#)|a.c:7", b'a', count, wanted)) == Some(true)
+}
+
+// The first length of names from 1 to 256 that isn't read, or isn't found too long.
 fn first_length_misread(alloc: Global) -> Option<usize> {
     for count in 1..=256usize {
-        let wanted = if count == 256 {
-            "NameTooLong"
-        } else {
-            "# Read #"
-        };
-        if says_filled(alloc, &("#|r(#)", b'a', count, wanted)) != Some(true) {
+        if !is_length_read(alloc, count) {
             return Some(count);
         }
     }
