@@ -31,8 +31,8 @@ pub found_near : (p : ℕ → Bool) (n m at : ℕ) (xs : List ℕ) → n ≤ m �
 found_near p n m at xs le all is below = omega (arith, place_among p n m xs le all, is, below)
 
 -- so it is where it is the end
-pub ends_near : (p : ℕ → Bool) (most rest limit at : ℕ) (xs : List ℕ) → rest ≤ length xs → limit ≡ min rest most → at ≡ position_or_len p (take limit xs) → at < most → at ≡ position_or_len p (take rest xs)
-ends_near p most rest limit at xs all near is few =
+pub ends_near : (p : ℕ → Bool) (rest limit at : ℕ) (xs : List ℕ) → rest ≤ length xs → limit ≡ min rest 32 → at ≡ position_or_len p (take limit xs) → at < 32 → at ≡ position_or_len p (take rest xs)
+ends_near p rest limit at xs all near is few =
     omega (arith, place_among p limit rest xs (omega (arith, near)) all, near, is, few, position_or_len-le p (take rest xs), length-take rest xs)
 
 -- the field between two places of a line
@@ -69,7 +69,7 @@ no_return line some good =
 
 -- what a line with these fields means
 pub short_meaning : (line thread field : List ℕ) (op : Op) (target : Option (List ℕ)) → length line ≤ 4096 → list_any is_bad_byte line ≡ false → list_any is_bar line ≡ true
-    → thread ≡ before_first is_bar line → trimmed thread ≡ thread → 0 < length thread → length thread < 256
+    → thread ≡ before_first is_bar line → trimmed thread ≡ thread → 0 < length thread → length thread < 32
     → field ≡ before_first is_bar (after_first is_bar line) → IsShort field op target
     → meaning line ≡ Means (record { thread = thread; op = op; target = target })
 short_meaning line thread field op target few good barred thread_is bare some short field_is is =
@@ -94,7 +94,7 @@ nothing_trimmed xs some first last =
     ∙ ap (λ n. take n xs) (omega (arith, back)) ∙ whole
 
 -- a field with an operation's word, a `(` behind it, at least a byte, and a `)` at the end
-module _ (field : List ℕ) (op : Op) (word : ℕ) (at : position_or_len is_parenthesis field ≡ word) (few : length field < 256) (room : word + 2 ≤ length field - 1) where
+module _ (field : List ℕ) (op : Op) (word : ℕ) (at : position_or_len is_parenthesis field ≡ word) (few : length field < 32) (room : word + 2 ≤ length field - 1) where
   abbrev behind : List ℕ
   behind = drop (word + 1) field
 

@@ -1,7 +1,7 @@
 -- The reading of a text, a line at a time.
-use Rattle.std.proofs.Common.{◌≡◌, ◌<◌, ◌≤◌, ◌+◌, ◌-◌, ◌==◌, ℕ, suc, Bool, true, false, not, cond, eqb, List, [], ◌∷◌, ◌++◌, length, take, drop, get_or, map, Some, None, Result, Ok, Err, OnErr, refl, true≢false, sym, ◌∙◌, ap, ap₂, arith, length-append}
+use Rattle.std.proofs.Common.{◌≡◌, ◌<◌, ◌≤◌, ◌+◌, ◌==◌, ℕ, suc, Bool, true, false, not, cond, eqb, List, [], ◌∷◌, ◌++◌, length, take, drop, get_or, map, Some, None, Result, Ok, Err, OnErr, refl, true≢false, sym, ◌∙◌, ap, ap₂, arith, length-append}
 use Rattle.std.specs.List.{position_or_len}
-use Rattle.std.proofs.lemmas.List.{append-nil, get_or-take, take-take, take-append-drop, take_all, drop-take, length-take-le, length-drop}
+use Rattle.std.proofs.lemmas.List.{append-nil, get_or-take, take-take, take-append-drop, drop-take, length-take-le}
 use Rattle.std.proofs.lemmas.List.Folds.{prefix_len-append}
 use Rattle.std.proofs.lemmas.List.Sums.{fails_before_first, passes_at_first, position_or_len_is}
 use Rattle.std.proofs.lemmas.Bool.{ne_eqb, eqb-true, eq-eqb, cond-true, cond-false}
@@ -84,14 +84,6 @@ module _ {X : Type 0} (p : X → Bool) (xs : List X) (n m : ℕ) (long : n ≤ l
   first_behind none =
       let first = position_or_len p (take n xs) in
       both ∙ cond-true (eqb first n) (n + position_or_len p (take m (drop n xs))) first (eq-eqb first n none)
-
--- where no element of the front passes, the first that does is behind it
-pub first_further : {X : Type 0} (p : X → Bool) (n : ℕ) (xs : List X) → n ≤ length xs → position_or_len p (take n xs) ≡ n → position_or_len p xs ≡ n + position_or_len p (drop n xs)
-first_further p n xs long none =
-    let m = length xs - n in
-    let whole : take (n + m) xs ≡ xs = take_all (n + m) xs (omega (arith, long)) in
-    let rest : take m (drop n xs) ≡ drop n xs = take_all m (drop n xs) (omega (arith, length-drop n xs)) in
-    ap (position_or_len p) (sym whole) ∙ first_behind p xs n m long none ∙ ap (λ l. n + position_or_len p l) rest
 
 -- the text so far, one line more, and the rest
 pub one_more_line : (events : List (ℕ × Named)) (n : ℕ) (whole : Reading) (rest line behind : List ℕ) → whole ≡ followed_by (reading events n None) (reading_of rest) → lines_of rest ≡ line ∷ lines_of behind →

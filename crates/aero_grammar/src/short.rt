@@ -12,7 +12,7 @@ ghost use Rattle.aero_grammar.specs.Meaning.{Means, meaning, is_unfit, is_bar, t
 ghost use Rattle.aero_grammar.specs.Words.{named_of};
 ghost use Rattle.aero_grammar.specs.Short.{IsShort, IsSign, word_of};
 
-use crate::bytes::{is_blank, place_of};
+use crate::bytes::is_blank;
 use crate::words::Words;
 use aero_model::Op;
 use aero_model::bytes::MOST_LINE_BYTES;
@@ -21,14 +21,8 @@ use std::simd::prelude::*;
 
 const LANES: usize = 32;
 
-// The end of a line is first looked for among so many bytes.
-const NEAR_BYTES: usize = 64;
-
-// A field has fewer bytes, so that no name in it is too long.
-const FIELD_BYTES: usize = 256;
-
-// So many bytes a text has at least, so that 32 stand behind each place at which a field may begin.
-const FEWEST_BYTES: usize = 320;
+// So many bytes a text has at least, so that 32 stand behind each place in its first 32.
+const FEWEST_BYTES: usize = 64;
 
 // A text's first line, what follows it, and the words of the line.
 #[derive(Clone, Copy)]
@@ -39,7 +33,7 @@ pub struct ShortLine<'a> {
 }
 
 // The first line of a text in which no byte is bad but those that end lines. It is told only where it has
-// an event, up to 4,096 bytes, and first fields of fewer than 256 each, without blanks round them.
+// an event, up to 4,096 bytes, and first fields of fewer than 32 each, without blanks round them.
 #[inline(always)]
 pub fn short_line(text: &[u8]) -> Option<ShortLine<'_>>
     requires { list_any is_unfit text.now ≡ false }
@@ -60,7 +54,8 @@ pub fn short_line(text: &[u8]) -> Option<ShortLine<'_>>
     })
 }
 
-// The place of the byte 10 that ends the first line of such a text, where that has up to 4,096 bytes.
+// The place of the byte 10 that ends the first line of such a text, where that has up to 4,096 bytes, and, where it has
+// 64 or more, a `|` among the first 32.
 #[inline(always)]
 fn line_end(text: &[u8]) -> Option<usize>
     requires wide { 64 ≤ length text.now }
@@ -72,8 +67,11 @@ fn line_end(text: &[u8]) -> Option<usize>
     ensures few { IfSome result (λ end. end ≤ 4096) }
 {
     let end = near_line_end(text);
-    if end < NEAR_BYTES {
+    if end < FEWEST_BYTES {
         return Some(end);
+    }
+    if place_in(b'|', text, 0, LANES) == LANES {
+        return None;
     }
     far_line_end(text)
 }
@@ -109,7 +107,7 @@ fn far_line_end(text: &[u8]) -> Option<usize>
 // The words of the line that ends at this place.
 #[inline(always)]
 fn short_words(text: &[u8], end: usize) -> Option<Words<'_>>
-    requires wide { 320 ≤ length text.now }
+    requires wide { 64 ≤ length text.now }
     requires within { end < length text.now }
     requires few { end ≤ 4096 }
     requires good { list_any is_bad_byte (take end text.now) ≡ false }
@@ -124,28 +122,28 @@ fn short_words(text: &[u8], end: usize) -> Option<Words<'_>>
 }
 
 // What stands before the first `|` of that line, what stands between it and the next, or the end, and the
-// eight bytes behind the first `|` as one number. It is told only where both have fewer than 256 bytes.
+// eight bytes behind the first `|` as one number. It is told only where both have fewer than 32 bytes.
 #[inline(always)]
 fn short_fields(text: &[u8], end: usize) -> Option<(&[u8], &[u8], u64)>
-    requires wide { 320 ≤ length text.now }
+    requires wide { 64 ≤ length text.now }
     requires within { end < length text.now }
     ensures barred { IfSome result (λ f. list_any is_bar (take end text.now) ≡ true) }
     ensures thread { IfSome result (λ f. f.0.now ≡ before_first is_bar (take end text.now)) }
-    ensures short { IfSome result (λ f. length f.0.now < 256) }
+    ensures short { IfSome result (λ f. length f.0.now < 32) }
     ensures field { IfSome result (λ f. f.1.now ≡
         before_first is_bar (after_first is_bar (take end text.now))) }
-    ensures within { IfSome result (λ f. length f.1.now < 256) }
+    ensures within { IfSome result (λ f. length f.1.now < 32) }
     ensures word { IfSome result (λ f. take (length f.1.now) (to_le_bytes w64 f.2) ≡ take 8 f.1.now) }
 {
-    let near = end.min(FIELD_BYTES);
-    let bar = place_up_to(b'|', text, 0, near);
+    let near = end.min(LANES);
+    let bar = place_in(b'|', text, 0, near);
     if bar == near {
         return None;
     }
     let behind = bar + 1;
-    let limit = (end - behind).min(FIELD_BYTES);
-    let more = place_up_to(b'|', text, behind, limit);
-    if more == FIELD_BYTES {
+    let limit = (end - behind).min(LANES);
+    let more = place_in(b'|', text, behind, limit);
+    if more == LANES {
         return None;
     }
     let word = word_at(text, behind)?;
@@ -163,39 +161,6 @@ fn word_at(text: &[u8], at: usize) -> Option<u64>
 }
 
 // The place of the first such byte among so many from this place on, or their number where there is none.
-#[inline(always)]
-fn place_up_to(sought: u8, text: &[u8], at: usize, limit: usize) -> usize
-    requires lanes { at + 32 ≤ length text.now }
-    requires within { at + limit ≤ length text.now }
-    ensures place { result ≡ position_or_len (λ b. b == sought) (take limit (drop at text.now)) }
-    ensures within { result ≤ limit }
-{
-    let near = limit.min(LANES);
-    let place = place_in(sought, text, at, near);
-    if place < LANES {
-        return place;
-    }
-    far_place_in(sought, &text[at..at + limit])
-}
-
-// The place of the first such byte, or the length where there is none: 32 bytes are looked at in each step.
-#[inline(never)]
-fn far_place_in(sought: u8, bytes: &[u8]) -> usize
-    ensures place { result ≡ position_or_len (λ b. b == sought) bytes.now }
-    ensures within { result ≤ length bytes.now }
-{
-    let mut passed = 0;
-    while passed + LANES <= bytes.len() {
-        let place = place_in(sought, bytes, passed, LANES);
-        if place < LANES {
-            return passed + place;
-        }
-        passed += LANES;
-    }
-    passed + place_of(sought, &bytes[passed..])
-}
-
-// The place of the first such byte among up to 32 from this place on, or their number where there is none.
 #[inline(always)]
 fn place_in(sought: u8, text: &[u8], at: usize, limit: usize) -> usize
     requires lanes { at + 32 ≤ length text.now }
@@ -246,7 +211,7 @@ fn is_trimmed(bytes: &[u8]) -> bool
 // least a byte behind it in parentheses. The field's first bytes are given as one number.
 #[inline(always)]
 fn short_operation(field: &[u8], word: u64) -> Option<(Op, Option<&[u8]>)>
-    requires few { length field.now < 256 }
+    requires few { length field.now < 32 }
     requires word { take (length field.now) (to_le_bytes w64 word) ≡ take 8 field.now }
     ensures { IfSome result (λ r. IsShort field.now r.0 (option_copied r.1)) }
 {
@@ -369,7 +334,7 @@ fn alone(op: Op) -> Option<Op>
 // in parentheses.
 #[inline(always)]
 fn enclosed(field: &[u8], op: Op, width: usize) -> Option<Option<&[u8]>>
-    requires few { length field.now < 256 }
+    requires few { length field.now < 32 }
     requires word { take (length (word_of op)) field.now ≡ word_of op }
     requires width { width ≡ length (word_of op) }
     requires longer { width < length field.now }
