@@ -3,6 +3,7 @@ ghost use Rattle.std.specs.Prelude.{◌≡◌, ◌<◌, ◌≤◌, ◌+◌, ◌*
 ghost use Rattle.std.specs.Arc.{arc_value};
 ghost use Rattle.aero_gather.specs.Gathered.{with_asked};
 ghost use Rattle.aero_gather.specs.Given.{value_of};
+ghost use Rattle.aero_batch.specs.declared.kind.Kind.TheVariants.{Parse};
 ghost use Rattle.aero_batch.specs.Inquiries.{nothing_asked, with_question, open_of, open_count, with_open, job_number};
 ghost use Rattle.aero_batch.specs.Inquiries.{Gives, SettlesKnown, TakesFront};
 ghost use Rattle.aero_batch.specs.Replies.{AllStay, Misses};
@@ -79,7 +80,9 @@ impl Inquiry {
     }
 
     /// The kind of which a question is to be awaited next: chunks, where one is asked about.
-    pub fn awaited(&self) -> Kind {
+    pub fn awaited(&self) -> Kind
+        ensures { (result ≡ Parse) ↔ (0 < length self.now.chunks) }
+    {
         if self.gathers.chunks.len() == 0 {
             Kind::Check
         } else {
