@@ -1,6 +1,7 @@
 //! One step of a run.
-ghost use Rattle.std.specs.Prelude.{◌≡◌, ◌<◌, ◌≤◌, ℕ, length, map, slice_get, OnOk};
+ghost use Rattle.std.specs.Prelude.{◌≡◌, ◌<◌, ◌≤◌, ◌↔◌, ℕ, None, length, map, slice_get, IfSome, OnOk};
 ghost use Rattle.aero_telling.specs.Founds.{sighted, whose};
+ghost use Rattle.aero_batch.specs.declared.kind.Kind.TheVariants.{Parse};
 ghost use Rattle.aero_batch.specs.Holding.{Counted};
 ghost use Rattle.aero_intake.specs.PlanTerms.{terms_of};
 ghost use Rattle.aero_batch.specs.Steps.{Steps};
@@ -75,7 +76,10 @@ fn step_on<R: Followed, H: Helpers, T: Wait>(
 }
 
 // The kind of which a question is settled next, where one is: one that is answered, or else that which is awaited.
-fn next_kind(inquiry: &Inquiry, answered: Option<Kind>) -> Kind {
+fn next_kind(inquiry: &Inquiry, answered: Option<Kind>) -> Kind
+    ensures answered { IfSome answered (λ kind. result ≡ kind) }
+    ensures awaited { answered ≡ None → ((result ≡ Parse) ↔ (0 < length inquiry.now.chunks)) }
+{
     match answered {
         Some(kind) => kind,
         None => inquiry.awaited(),
