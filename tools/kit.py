@@ -1,7 +1,10 @@
-"""What scripts of tools/ know of the kit: its command as a module, which of its lines are routine, which crates crates.txt has, and which
-processes are the prover's; and how a time is written."""
+"""What scripts of tools/ know of the kit: its command as a module, which of its lines are routine, which crates crates.txt has, which
+processes are the prover's, and which libraries the last `rt ci` proved; and how a time is written."""
+import functools
+import hashlib
 import importlib.machinery
 import importlib.util
+import inspect
 import os
 import re
 import shutil
@@ -41,8 +44,73 @@ def rt_module():
     return made
 
 
+def keep_stamps(crate):
+    """Has each crate below work out the sum of its files once, and not once more for each way that leads to it (for aero_program 2,338
+    times, 17 seconds). All are locked; where a file changes even so, the sum is of what it was, and the next run proves again."""
+    for below in crate.below() if hasattr(crate, "below") else []:
+        if hasattr(below, "stamp") and "stamp" not in vars(below) and not inspect.signature(below.stamp).parameters:
+            below.stamp = functools.partial(str, below.stamp())
+
+
 def is_routine(line):
     return bool(ROUTINE.match(line))
+
+
+# What tools/ci notes of the crates that the last `rt ci` proved: a crate, the sum of its text, and what its library was then.
+NOTED = "out/proved-by-ci"
+
+
+def text_sum(crate):
+    """A sum of all that the crate's proof is made from, but for the crates below it."""
+    made = hashlib.sha256()
+    for part in ("src", "specs", "proofs"):
+        for at, folders, names in os.walk(f"crates/{crate}/{part}"):
+            folders.sort()
+            for name in sorted(names):
+                with open(f"{at}/{name}", "rb") as it:
+                    made.update(repr((f"{at}/{name}", it.read())).encode())
+    return made.hexdigest()
+
+
+def library_mark(crate):
+    """What the crate's library in out/ is, or an empty text where there is none, or one that has the kit's own stamp."""
+    top, made = f"crates/{crate}/out/rlib", hashlib.sha256()
+    if not os.path.isdir(f"{top}/{crate}.rlib") or os.path.exists(f"{top}/stamp"):
+        return ""
+    for at, folders, names in os.walk(top):
+        folders.sort()
+        for name in sorted(names):
+            it = os.stat(f"{at}/{name}")
+            made.update(repr((at, name, it.st_size, it.st_mtime_ns, it.st_ino)).encode())
+    return made.hexdigest()
+
+
+def proved_by_ci():
+    """The crates whose library in out/ is still the one that the last `rt ci` proved, from the text that stands there now. Such a library
+    has no stamp of the kit's: it has statements alone, and fits only the others of that run. The prover refuses any mix."""
+    try:
+        with open(NOTED, encoding="utf-8") as it:
+            first, *lines = it.read().splitlines()
+        with open("crates.txt", "rb") as it:
+            is_same = first == hashlib.sha256(it.read()).hexdigest()
+    except (OSError, ValueError):
+        return set()
+    rows = [it.split() for it in lines if is_same]
+    return {crate for crate, text, mark in rows if text_sum(crate) == text and library_mark(crate) == mark}
+
+
+def are_proved_by_ci(crates):
+    """Whether the last `rt ci` proved the libraries of all these crates, and they are still there."""
+    return proved_by_ci().issuperset(crates)
+
+
+# The memory that a process of the prover may take.
+NEED = 4 << 30
+
+
+def places(rt):
+    """How many processes of the prover may work at once, by the kit's own count: one a processor, and one for each 4 GB of free memory."""
+    return max(1, min(rt.processors(), rt.free() // NEED))
 
 
 def uses_of(path):
