@@ -8,6 +8,7 @@
 #: make uninstall PREFIX=DIR  removes the files that make install put there, and nothing else
 #: make dist                  makes an archive for machines without the kit, out/dist/aerodrome-VERSION-linux-x86_64.tar.gz
 #: make deb                   makes packages for Debian in out/dist; both need rt, and a JDK (WITHOUT=java leaves the agent out)
+#: make edits                 tries every wrong body that the prover must refuse, and its harmless twin; needs rt
 #: make test                  runs the gate: every proof, test and case, and the examples of the pages
 #: make clean                 removes everything that was built, and everything that is kept of proofs
 PREFIX ?= /usr/local
@@ -24,7 +25,7 @@ WRAPPERS := bin/aerodrome-cc bin/aerodrome-c++ bin/aerodrome-rustc bin/aerodrome
 GO := $(wildcard go/*) logger/words.h
 JAVA := java/build $(wildcard java/src/aerodrome/table java/src/aerodrome/*.java java/src/aerodrome/*/*.java)
 
-.PHONY: all help try library logger go java test install files uninstall clean
+.PHONY: all help try library logger go java edits test install files uninstall clean
 
 all: bin/aerodrome $(COMMANDS)
 
@@ -64,6 +65,10 @@ library: lib/aerodrome/libaerodrome.a
 
 lib/aerodrome/libaerodrome.a: $(SOURCES) $(LIBRARY)
 	@tools/build library
+
+# All of them, whatever has changed.
+edits:
+	@tools/edits
 
 # `rt ci`, and then the cases, the checks of printed orders and cycles, and the pages, by what stands in tests/, on the program that it built.
 test:

@@ -28,6 +28,7 @@ ROUTINE = re.compile(
     r"|empty contracts: 0 found; "
     r"|rt: chose --jobs "
     r"|rt: must-fail \S+: refused, as it must be(: .*)?$"
+    r"|\w+: \d+ (twins pass|refused), in \d+ s: "
     r"|test \S+ \.\.\. ok$"
     r"|running \d+ tests?$"
     r"|test result: ok\."
