@@ -156,7 +156,7 @@ FILES = re.compile(r"(?<![\w/.<-])((?:crates|docs|tests|tools|bench|logger|java|
 FOR_ANY = re.compile(r"(?:^|[/_.])(?:[A-Z]{2,}|WHAT_\w+)(?:[/_.]|$)|/out(?:/|$)")
 
 
-def texts_of(crate, parts=("src", "specs", "proofs", "must-fail")):
+def texts_of(crate, parts=("src", "specs", "proofs", "must-fail", "wrong-bodies")):
     """The files of a crate, each with its text."""
     found = {}
     for part in parts:
