@@ -1,13 +1,8 @@
-/* Memory: plain accesses, ranges, and what is allocated again. */
+/* Memory: plain accesses, ranges, and how often each address was allocated. */
 #include "log.h"
+#include "memory.h"
 
-#include <errno.h>
-#include <malloc.h>
-#include <stdlib.h>
 #include <sys/mman.h>
-
-/* Programs are linked so that a plain memcpy leads to __wrap_memcpy. */
-extern void *__real_memmove(void *, const void *, size_t), *__real_memset(void *, int, size_t);
 
 /* ---- what is allocated again */
 
@@ -82,26 +77,6 @@ void aero_renew(uintptr_t from, uintptr_t to) {
     }
 }
 
-extern void *__libc_malloc(size_t), *__libc_calloc(size_t, size_t);
-extern void *__libc_realloc(void *, size_t), *__libc_memalign(size_t, size_t);
-
-static void *renewed(void *at) {
-    if (at && UNLIKELY(atomic_load_explicit(&aero_state, memory_order_relaxed) == ON))
-        aero_renew((uintptr_t)at, (uintptr_t)at + malloc_usable_size(at));
-    return at;
-}
-EXPORT void *malloc(size_t bytes) { return renewed(__libc_malloc(bytes)); }
-EXPORT void *calloc(size_t count, size_t bytes) { return renewed(__libc_calloc(count, bytes)); }
-EXPORT void *memalign(size_t alignment, size_t bytes) { return renewed(__libc_memalign(alignment, bytes)); }
-EXPORT void *aligned_alloc(size_t alignment, size_t bytes) { return renewed(__libc_memalign(alignment, bytes)); }
-EXPORT int posix_memalign(void **to, size_t alignment, size_t bytes) {
-    if (!alignment || alignment % sizeof(void *) || alignment & (alignment - 1)) return EINVAL;
-    void *at = renewed(__libc_memalign(alignment, bytes));
-    if (!at) return ENOMEM;
-    *to = at;
-    return 0;
-}
-
 EXPORT void *mmap(void *wanted, size_t bytes, int protection, int flags, int file, off_t offset) {
     REAL(void *, mmap, void *, size_t, int, int, int, off_t)
     void *at = real(wanted, bytes, protection, flags, file, offset);
@@ -124,8 +99,7 @@ static void access_at(const char *operation, enum access how, uintptr_t address,
     aero_leave();
 }
 
-/* In steps, so that nobody waits long. */
-static void range_at(const char *operation, uintptr_t address, size_t bytes, uintptr_t code) {
+void aero_range(const char *operation, uintptr_t address, size_t bytes, uintptr_t code) {
     const size_t step = 4096;
     if (!bytes || !aero_enter()) return;
     for (uintptr_t end = address + bytes; address < end;) {
@@ -158,68 +132,14 @@ ALL_ACCESSES(4, PLAIN)
 ALL_ACCESSES(8, COPY)
 ALL_ACCESSES(16, COPY)
 
-EXPORT void __tsan_read_range(void *at, size_t bytes) { range_at("r", (uintptr_t)at, bytes, HERE); }
-EXPORT void __tsan_write_range(void *at, size_t bytes) { range_at("w", (uintptr_t)at, bytes, HERE); }
-EXPORT void __tsan_read_range_pc(void *at, size_t bytes, void *code) { range_at("r", (uintptr_t)at, bytes, (uintptr_t)code); }
-EXPORT void __tsan_write_range_pc(void *at, size_t bytes, void *code) { range_at("w", (uintptr_t)at, bytes, (uintptr_t)code); }
+EXPORT void __tsan_read_range(void *at, size_t bytes) { aero_range("r", (uintptr_t)at, bytes, HERE); }
+EXPORT void __tsan_write_range(void *at, size_t bytes) { aero_range("w", (uintptr_t)at, bytes, HERE); }
+EXPORT void __tsan_read_range_pc(void *at, size_t bytes, void *code) { aero_range("r", (uintptr_t)at, bytes, (uintptr_t)code); }
+EXPORT void __tsan_write_range_pc(void *at, size_t bytes, void *code) { aero_range("w", (uintptr_t)at, bytes, (uintptr_t)code); }
 EXPORT void __tsan_vptr_read(void **at) { access_at("r", PLAIN, (uintptr_t)at, sizeof *at, HERE, FRAME); }
 EXPORT void __tsan_vptr_update(void **at, void *value) {
     (void)value;
     access_at("w", PLAIN, (uintptr_t)at, sizeof *at, HERE, FRAME);
-}
-
-/* ---- copies */
-
-static void *copied(void *to, const void *from, size_t bytes, uintptr_t code) {
-    range_at("r", (uintptr_t)from, bytes, code);
-    range_at("w", (uintptr_t)to, bytes, code);
-    return __real_memmove(to, from, bytes);
-}
-static void *filled(void *to, int value, size_t bytes, uintptr_t code) {
-    range_at("w", (uintptr_t)to, bytes, code);
-    return __real_memset(to, value, bytes);
-}
-/* What __memcpy_chk and the like check, that the target has room, is left to them. */
-#define COPIES(name) \
-    EXPORT void *__wrap_##name(void *to, const void *from, size_t bytes) { return copied(to, from, bytes, HERE); } \
-    EXPORT void *__tsan_##name(void *to, const void *from, size_t bytes) { return copied(to, from, bytes, HERE); } \
-    extern void *__real___##name##_chk(void *, const void *, size_t, size_t); \
-    EXPORT void *__wrap___##name##_chk(void *to, const void *from, size_t bytes, size_t room) { \
-        if (bytes > room) return __real___##name##_chk(to, from, bytes, room); \
-        return copied(to, from, bytes, HERE); \
-    }
-COPIES(memcpy)
-COPIES(memmove)
-extern void *__real___memset_chk(void *, int, size_t, size_t);
-EXPORT void *__wrap_memset(void *to, int value, size_t bytes) { return filled(to, value, bytes, HERE); }
-EXPORT void *__tsan_memset(void *to, int value, size_t bytes) { return filled(to, value, bytes, HERE); }
-EXPORT void *__wrap___memset_chk(void *to, int value, size_t bytes, size_t room) {
-    return bytes > room ? __real___memset_chk(to, value, bytes, room) : filled(to, value, bytes, HERE);
-}
-
-/* What stays in place keeps its names, and what it grows by is new. What moves is copied, before the old place is given back. */
-EXPORT void *realloc(void *old, size_t bytes) {
-    if (!old || LIKELY(atomic_load_explicit(&aero_state, memory_order_relaxed) != ON)) return renewed(__libc_realloc(old, bytes));
-    size_t room = malloc_usable_size(old), same = room < bytes ? room : bytes;
-    if (!bytes) return __libc_realloc(old, bytes);
-    void *at = bytes <= room ? __libc_realloc(old, bytes) : NULL;
-    if (at == old) return at;
-    if (!at) {
-        range_at("r", (uintptr_t)old, same, HERE);
-        at = __libc_realloc(old, bytes);
-    }
-    if (!at) return NULL;
-    if (at == old) aero_renew((uintptr_t)at + room, (uintptr_t)at + malloc_usable_size(at));
-    else range_at("w", (uintptr_t)renewed(at), same, HERE);
-    return at;
-}
-EXPORT void *reallocarray(void *old, size_t count, size_t bytes) {
-    size_t all;
-    if (__builtin_mul_overflow(count, bytes, &all)) {
-        errno = ENOMEM;
-        return NULL;
-    }
-    return realloc(old, all);
 }
 
 EXPORT void __tsan_ignore_thread_begin(void) {}
