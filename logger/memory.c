@@ -21,13 +21,22 @@ static bool with_fresh;
 
 void aero_memory_start(void) { with_fresh = aero_settings.fresh; }
 
+static struct leaf *refused(void) {
+    static atomic_int told;
+    if (!atomic_exchange(&told, 1))
+        aero_say("AERODROME_LOG", "there is no room of addresses for its tables (ulimit -v): memory that is allocated again keeps "
+                                  "its names, and parts of a variable aren't known as such");
+    return NULL;
+}
+
 static struct leaf *leaf_of(uintptr_t address, bool make) {
     if (address >> 47) return NULL;
     _Atomic(struct leaf *) *slot = &leaves[address >> LEAF_BITS];
     struct leaf *leaf = atomic_load_explicit(slot, memory_order_acquire);
     if (leaf || !make) return leaf;
     struct leaf *made = aero_pages(sizeof *made);
-    if (!made || atomic_compare_exchange_strong(slot, &leaf, made)) return made;
+    if (UNLIKELY(!made)) return refused();
+    if (atomic_compare_exchange_strong(slot, &leaf, made)) return made;
     aero_free_pages(made, sizeof *made);
     return leaf;
 }
@@ -64,16 +73,20 @@ uint32_t aero_generation(uintptr_t address) {
     return leaf ? *unit_of(leaf, address) + *page_of(leaf, address) : 0;
 }
 
+/* A leaf that isn't there, and all of whose addresses are renewed, needs none: nothing was accessed in it. So terabytes that a program
+ * only reserves cost nothing. */
 void aero_renew(uintptr_t from, uintptr_t to) {
-    const uintptr_t unit = 1 << UNIT_BITS, page = 1 << PAGE_BITS;
+    const uintptr_t unit = 1 << UNIT_BITS, page = 1 << PAGE_BITS, most = 1 << LEAF_BITS;
     if (!with_fresh || atomic_load_explicit(&aero_state, memory_order_relaxed) != ON) return;
     for (from &= -unit; from < to;) {
-        struct leaf *leaf = leaf_of(from, true);
-        bool whole = !(from & (page - 1)) && to - from >= page;
-        if (!leaf) return;
-        ++*(whole ? page_of(leaf, from) : unit_of(leaf, from));
-        forget_parts(leaf, from, whole ? page : unit, whole);
-        from += whole ? page : unit;
+        bool covers = !(from & (most - 1)) && to - from >= most, whole = !(from & (page - 1)) && to - from >= page;
+        struct leaf *leaf = leaf_of(from, !covers);
+        if (!leaf && !covers) return;
+        if (leaf) {
+            ++*(whole ? page_of(leaf, from) : unit_of(leaf, from));
+            forget_parts(leaf, from, whole ? page : unit, whole);
+        }
+        from += !leaf ? most : whole ? page : unit;
     }
 }
 

@@ -85,6 +85,7 @@ static void log_parts(const char *operation, enum access how, uintptr_t at, unsi
 static void log_grains(const char *operation, uintptr_t address, uintptr_t end, uintptr_t code) {
     uintptr_t grain = (uintptr_t)aero_grain, low, high;
     while (address < end) {
+        aero_parts_at(address);                  /* (so that it is known to be in use, where it is allocated again) */
         aero_symbol_bounds(address, &low, &high);
         uintptr_t start = low + ((address - low) & -grain);
         aero_line(operation, "", start, NULL, code);
