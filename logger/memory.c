@@ -154,7 +154,3 @@ EXPORT void __tsan_vptr_update(void **at, void *value) {
     (void)value;
     access_at("w", PLAIN, (uintptr_t)at, sizeof *at, HERE, FRAME);
 }
-
-EXPORT void __tsan_ignore_thread_begin(void) {}
-EXPORT void __tsan_ignore_thread_end(void) {}
-EXPORT void __tsan_flush_memory(void) {}
