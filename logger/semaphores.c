@@ -1,17 +1,29 @@
-/* Semaphores. Each post has a number K, and writes sem.X.K before the call. A wait reads, once it is through, the post without which
- * it would have had to wait: with two permits at first, the third wait reads sem.X.1. So threads that have permits at the same time
- * don't conflict, and of one permit each user comes behind the one before. A wait that fails has no event. */
+/* Semaphores. Each post has a number K, and writes sem.X.K before the call. A wait reads, once it is through, the posts without which
+ * it would have had to wait, as far as the log can tell:
+ *
+ *   all posts, and all waits, since the semaphore had no permit are of one thread each   the K-th such wait reads the K-th post
+ *   all waits since then are of this thread, and it takes the last permit                it reads all posts since then
+ *   it takes the last permit                                                             it reads the last post
+ *   otherwise                                                                            it reads none: another permit was there
+ *
+ * Permits that it has at its start count as if nobody had posted them, and while some of these were never taken, no thread needs
+ * another one's post. So threads that have permits at the same time don't conflict, and of one permit each user comes behind the one
+ * before. A wait that fails has no event. */
 #include "log.h"
 
 #include <semaphore.h>
 #include <time.h>
 
-/* Of one semaphore, as counted since its start. What a process or a handler posts unseen has no number. */
+/* What another process posts has no number. */
+enum { SEVERAL = -1 };           /* in the place of the number of a thread: of more than one */
 struct semaphore {
     uintptr_t at;                /* 0: none */
-    uint64_t first;              /* its value then */
-    uint64_t posts, waits;
-    uint64_t before;             /* posts of those that were there before it was made anew */
+    uint64_t posts;              /* in all, also of those that were there before it was made anew */
+    /* Since it had no permit, or else since its start: */
+    uint64_t from;               /* how many posts there were before */
+    uint64_t spare;              /* its value at its start; 0 since it had none */
+    uint64_t waits;
+    int poster, waiter;
 };
 static struct semaphore *all;
 static size_t count, room;       /* room: a power of two, or 0 */
@@ -38,22 +50,25 @@ static bool has_room(void) {
     if (old) aero_free_pages(old, old_room * sizeof *old);
     return true;
 }
-/* NULL where memory is refused. One that is met for the first time has as many permits as it says. */
-static struct semaphore *known(sem_t *semaphore) {
+/* NULL where memory is refused. One that is met for the first time has as many permits as it has now. */
+static struct semaphore *known(sem_t *semaphore, int value) {
     if (!has_room()) return NULL;
     struct semaphore *it = place_of((uintptr_t)semaphore);
     if (it->at) return it;
-    int value = 0;
-    if (sem_getvalue(semaphore, &value) || value < 0) value = 0;
-    *it = (struct semaphore){.at = (uintptr_t)semaphore, .first = (uint64_t)value};
+    *it = (struct semaphore){.at = (uintptr_t)semaphore, .spare = value > 0 ? (uint64_t)value : 0};
     count++;
     return it;
+}
+/* (an address that isn't mapped faults here, where no lock is held) */
+static int value_of(sem_t *semaphore) {
+    int value = 0;
+    return sem_getvalue(semaphore, &value) ? 0 : value;
 }
 
 static void line(const char *operation, const struct semaphore *it, uint64_t number, uintptr_t code) {
     char name[MOST_NAME + 64], digits[24], *digit = digits, *to = aero_put_variable(name, it->at);
     *to++ = '.';
-    for (number += it->before; number; number /= 10) *digit++ = (char)('0' + number % 10);
+    for (; number; number /= 10) *digit++ = (char)('0' + number % 10);
     while (digit > digits) *to++ = *--digit;
     *to = 0;
     aero_line(operation, "sem.", 0, name, code);
@@ -64,19 +79,28 @@ EXPORT int sem_init(sem_t *semaphore, int is_shared, unsigned value) {
     int result = real(semaphore, is_shared, value);
     if (result || !aero_enter()) return result;
     aero_lock();
-    struct semaphore *it = known(semaphore);
-    if (it) *it = (struct semaphore){.at = it->at, .first = value, .before = it->before + it->posts};
+    struct semaphore *it = known(semaphore, 0);
+    if (it) *it = (struct semaphore){.at = it->at, .posts = it->posts, .from = it->posts, .spare = value};
     aero_unlock();
     aero_leave();
     return result;
 }
 
+static void note_thread(int *who, bool is_first) {
+    if (is_first) *who = aero_me.number;
+    else if (*who != aero_me.number) *who = SEVERAL;
+}
+
 EXPORT int sem_post(sem_t *semaphore) {
     REAL(int, sem_post, sem_t *)
     if (aero_enter()) {
+        int value = value_of(semaphore);
         aero_lock();
-        struct semaphore *it = known(semaphore);
-        if (it) line("w", it, ++it->posts, HERE);
+        struct semaphore *it = known(semaphore, value);
+        if (it) {
+            note_thread(&it->poster, it->posts == it->from);
+            line("w", it, ++it->posts, HERE);
+        }
         aero_unlock();
         aero_leave();
     }
@@ -86,16 +110,39 @@ EXPORT int sem_post(sem_t *semaphore) {
 /* Before a wait, so that its permits are counted without it. */
 static void meet(sem_t *semaphore) {
     if (!aero_enter()) return;
+    int value = value_of(semaphore);
     aero_lock();
-    known(semaphore);
+    known(semaphore, value);
     aero_unlock();
     aero_leave();
+}
+
+/* The reads of a wait that is through; `needs` permits of those that were posted are taken by now. */
+static void read_posts(const struct semaphore *it, int64_t needs, uintptr_t code) {
+    uint64_t posted = it->posts - it->from, first = it->posts + 1;
+    bool is_last = needs == (int64_t)posted;
+    if (needs <= 0 || needs > (int64_t)posted) return;
+    if (it->waiter != SEVERAL && it->poster != SEVERAL) {
+        line("r", it, it->from + (uint64_t)needs, code);
+        return;
+    }
+    if (is_last && it->waiter != SEVERAL) first = it->from + 1;
+    else if (is_last && !it->spare) first = it->posts;
+    for (; first <= it->posts; first++) line("r", it, first, code);
 }
 static void has_waited(sem_t *semaphore, uintptr_t code) {
     if (!aero_enter()) return;
     aero_lock();
-    struct semaphore *it = known(semaphore);
-    if (it && ++it->waits > it->first && it->waits - it->first <= it->posts) line("r", it, it->waits - it->first, code);
+    struct semaphore *it = known(semaphore, 0);
+    if (it) {
+        note_thread(&it->waiter, !it->waits);
+        int64_t needs = (int64_t)++it->waits - (int64_t)it->spare;
+        read_posts(it, needs, code);
+        if (needs >= (int64_t)(it->posts - it->from)) {
+            it->from = it->posts;
+            it->spare = it->waits = 0;
+        }
+    }
     aero_unlock();
     aero_leave();
 }

@@ -3,7 +3,7 @@
 #include <unistd.h>
 
 #define UNLOGGED __attribute__((no_sanitize("thread"), unused)) static
-enum { STEPS = 2 };
+enum { STEPS = 3 };
 static int step_pipes[STEPS][2];
 
 UNLOGGED void open_steps(void) __attribute__((constructor(200)));
