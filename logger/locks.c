@@ -44,24 +44,143 @@ static void lock_line(const char *operation, uintptr_t lock, enum holding how, u
     else aero_line(how == READER ? "r" : "w", "rw.", lock, NULL, code);
 }
 
+/* ---- who holds which mutex; the log's lock is held */
+
+/* A mutex that the log shows held. Once another thread has unlocked it, it is no lock in the log any more, but a variable that whoever
+ * locks or unlocks it writes: X.handed. So each line with acq is of a lock that nobody holds. */
+struct holder {
+    uintptr_t lock;                      /* 0: the place is free */
+    uint32_t generation;                 /* of the memory there */
+    int owner;                           /* the number of the thread, or HANDED */
+    size_t times;
+};
+enum { HANDED = -1 };
+static struct holder *holders;
+static size_t holder_count, holder_room;         /* holder_room: a power of two, or 0 */
+
+static size_t home_of(uintptr_t lock) { return (size_t)(lock * 0x9e3779b97f4a7c15u >> 32) & (holder_room - 1); }
+static struct holder *holder_at(uintptr_t lock) {
+    size_t place = home_of(lock);
+    while (holders[place].lock && holders[place].lock != lock) place = (place + 1) & (holder_room - 1);
+    return &holders[place];
+}
+
+/* That of the mutex that lies there now; NULL: none. */
+static struct holder *holder_of(uintptr_t lock) {
+    struct holder *it = holder_room ? holder_at(lock) : NULL;
+    return it && it->lock && it->generation == aero_generation(lock) ? it : NULL;
+}
+
+static bool holders_have_room(void) {
+    if (2 * (holder_count + 1) <= holder_room) return true;
+    struct holder *old = holders;
+    size_t old_room = holder_room, more = holder_room ? 2 * holder_room : 128;
+    struct holder *made = aero_pages(more * sizeof *made);
+    if (!made) return false;
+    holders = made;
+    holder_room = more;
+    for (size_t place = 0; place < old_room; place++)
+        if (old[place].lock) *holder_at(old[place].lock) = old[place];
+    if (old) aero_free_pages(old, old_room * sizeof *old);
+    return true;
+}
+static void note_holder(uintptr_t lock) {
+    if (!holders_have_room()) {
+        aero_stop("out of memory");
+        return;
+    }
+    struct holder *it = holder_at(lock);
+    holder_count += !it->lock;
+    *it = (struct holder){lock, aero_generation(lock), aero_me.number, 1};
+}
+
+/* What lies behind it comes nearer to where it is looked for. */
+static void forget_holder(struct holder *it) {
+    size_t free_place = (size_t)(it - holders), mask = holder_room - 1;
+    for (size_t place = (free_place + 1) & mask; holders[place].lock; place = (place + 1) & mask) {
+        size_t home = home_of(holders[place].lock);
+        if (((place - home) & mask) < ((place - free_place) & mask)) continue;
+        holders[free_place] = holders[place];
+        free_place = place;
+    }
+    holders[free_place].lock = 0;
+    holder_count--;
+}
+
+void aero_forget_locks(void) {
+    aero_free_pages(holders, holder_room * sizeof *holders);
+    holders = NULL;
+    holder_count = holder_room = 0;
+    aero_me.holds = 0;
+}
+
+static void tell_of_handed(uintptr_t lock) {
+    static bool is_told;
+    char name[MOST_NAME + 64];
+    if (is_told) return;
+    is_told = true;
+    *aero_put_variable(name, lock) = 0;
+    aero_say(name, "a thread unlocks the mutex that another one has locked: the log has w(..handed) for it from here on");
+}
+static void handed_line(uintptr_t lock, uintptr_t code) {
+    char name[MOST_NAME + 64];
+    *aero_put_text(aero_put_variable(name, lock), ".handed") = 0;
+    aero_line("w", "", 0, name, code);
+}
+
+/* Whether it is a lock in the log, which the thread takes. */
+static bool takes_mutex(uintptr_t lock) {
+    struct holder *it = holder_of(lock);
+    if (!it) note_holder(lock);
+    else if (it->owner == aero_me.number) it->times++;
+    else if (it->owner != HANDED) {
+        it->owner = HANDED;
+        tell_of_handed(lock);
+    }
+    return !it || it->owner != HANDED;
+}
+
+/* Whether it is one, which the thread has taken or nobody. */
+static bool gives_mutex(uintptr_t lock) {
+    struct holder *it = holder_of(lock);
+    if (!it) return true;
+    if (it->owner == aero_me.number) {
+        if (!--it->times) forget_holder(it);
+        return true;
+    }
+    if (it->owner != HANDED) tell_of_handed(lock);
+    it->owner = HANDED;
+    return false;
+}
+
+/* ---- what a thread takes and gives back; the log's lock is held */
+
 void aero_release_all(void) {
     struct thread *me = &aero_me;
     while (me->holds) {
         struct held it = *held_at(me, --me->holds);
-        lock_line("rel", it.lock, it.how, 0);
+        if (it.how != MUTEX || gives_mutex(it.lock)) lock_line("rel", it.lock, it.how, 0);
     }
 }
 
 /* A process that ends between the line and what is noted releases nothing that it hasn't acquired, and nothing twice. */
 void aero_hold(uintptr_t lock, enum holding how, uintptr_t code) {
+    if (how == MUTEX && UNLIKELY(!takes_mutex(lock))) {
+        handed_line(lock, code);
+        return;
+    }
     lock_line("acq", lock, how, code);
     hold(lock, how);
 }
 
-/* How the thread held what it is about to give back. A lock that it isn't known to hold, as one that it had before the log
+/* How the thread held what it is about to give back. A lock that nobody is known to hold, as one that was taken before the log
  * began, isn't released there. */
 enum holding aero_release(uintptr_t lock, uintptr_t code) {
     enum holding how = let_go(lock);
+    if ((how == MUTEX || !how) && UNLIKELY(!gives_mutex(lock))) {
+        handed_line(lock, code);
+        return MUTEX;
+    }
     if (how) lock_line("rel", lock, how, code);
     return how;
 }

@@ -319,6 +319,7 @@ enum holding aero_releasing(uintptr_t lock, uintptr_t code);
 void aero_hold(uintptr_t lock, enum holding how, uintptr_t code);
 enum holding aero_release(uintptr_t lock, uintptr_t code);
 uintptr_t aero_last_mutex(void);                      /* that the thread has taken and still holds, or 0 */
+void aero_forget_locks(void);                         /* as the log that they were taken in isn't written here */
 void aero_release_all(void);
 
 /* rust.c */
