@@ -34,8 +34,9 @@ static void *take_first(size_t bytes) {
 }
 
 static void *ask(const char *name) {
+    struct next next = {name, NULL, NULL};
     is_asking = true;
-    void *found = aero_next(name, NULL);
+    void *found = aero_next(&next);
     is_asking = false;
     return found;
 }

@@ -16,9 +16,11 @@ static bool has_room(struct thread *me) {
     return false;
 }
 
-/* Whether it is the function that a thread other than main's starts with: below it are at most functions of the runtime, by
- * which std::thread calls it. */
-static bool is_start(const struct thread *me) { return me->number != 1 && me->depth == me->leading; }
+/* Whether it is the function that a thread other than main's starts with, and no signal handler: below it are at most functions of
+ * the runtime, by which std::thread calls it. */
+static bool is_start(const struct thread *me) {
+    return me->number != 1 && me->depth == me->leading && me->depth + 1 != me->handler;
+}
 
 /* Whether it is a test of Rust: its thread starts with a closure that stands in the function itself, f::{{closure}}, and that calls
  * it. */
@@ -174,6 +176,8 @@ static void leave_until(uintptr_t stack) {
 
 static void jumps_to(const struct __jmp_buf_tag *to) {
     uintptr_t stack = stack_of(to);
+    aero_me.aborts = 0;
+    aero_me.handler = 0;
     if (aero_me.busy) aero_interrupted();
     if (!stack) aero_me.jumped = true;
     if (!stack || !aero_enter()) return;

@@ -119,9 +119,3 @@ EXPORT int clone(int (*start)(void *), void *stack, int flags, void *with, ...) 
     }
     return result;
 }
-
-/* They are looked up here, and not where a signal handler or a child of vfork() is the first to call them. */
-void aero_calls_start(void) {
-    syscall(SYS_getpid);
-    prctl(PR_GET_DUMPABLE);
-}

@@ -33,7 +33,7 @@ void aero_finish(void) {
     int was_busy = aero_me.busy;
     bool writes = aero_writes();
     aero_me.busy = 1;
-    if (!aero_me.number) aero_number(aero_next_number());
+    if (!aero_me.number) aero_meet_thread();
     if (!writes) aero_lock();
     aero_flush();
     if (atomic_load(&aero_state) == ON) {
@@ -45,8 +45,8 @@ void aero_finish(void) {
     atomic_store(&aero_state, OFF);
     close_log();
     aero_unlock();
+    aero_be_busy_as(was_busy);
     aero_end_command(true);
-    aero_me.busy = was_busy;
 }
 
 /* What the program has said stands before what the command says. */
@@ -68,15 +68,21 @@ EXPORT void _exit(int status) {
     for (;;) syscall(SYS_exit_group, status);
 }
 EXPORT void _Exit(int status) { _exit(status); }
+/* The program's own handler may leave abort() by longjmp, as those of test frameworks do, and the program goes on. Where it returns,
+ * the process ends (signals.c). */
+static void aborts(void) {
+    aero_me.aborts = 1;
+    if (!aero_is_handled(SIGABRT)) aero_finish();
+}
 EXPORT void abort(void) {
     REAL(void, abort, void)
-    aero_finish();
+    aborts();
     real();
     __builtin_unreachable();
 }
 EXPORT void __assert_fail(const char *what, const char *file, unsigned line, const char *function) {
     REAL(void, __assert_fail, const char *, const char *, unsigned, const char *)
-    aero_finish();
+    aborts();
     real(what, file, line, function);
     __builtin_unreachable();
 }
@@ -86,7 +92,7 @@ EXPORT void __assert_fail(const char *what, const char *file, unsigned line, con
 static const int deadly[] = {SIGHUP, SIGINT, SIGQUIT, SIGILL, SIGTRAP, SIGABRT, SIGBUS, SIGFPE, SIGUSR1, SIGSEGV, SIGUSR2, SIGPIPE,
                              SIGALRM, SIGTERM, SIGXCPU, SIGXFSZ, SIGVTALRM, SIGPROF, SIGIO, SIGSYS};
 
-static bool is_deadly(int signal) {
+bool aero_is_deadly(int signal) {
     for (size_t one = 0; one < sizeof deadly / sizeof *deadly; one++)
         if (deadly[one] == signal) return true;
     return false;
@@ -117,6 +123,9 @@ static int spare_count;
 static lock_word spare_lock;
 static __thread void *signal_stack;
 
+void aero_lock_stacks(void) { aero_take(&spare_lock); }
+void aero_unlock_stacks(void) { aero_let_go(&spare_lock); }
+
 static void tell_of_no_stack(void) {
     static atomic_int is_told;
     if (!atomic_exchange(&is_told, 1))
@@ -145,35 +154,14 @@ void aero_drop_signal_stack(void) {
     signal_stack = NULL;
 }
 
-static struct sigaction at_the_end(void) {
+struct sigaction aero_at_the_end(void) {
     struct sigaction action = {.sa_sigaction = ends_by, .sa_flags = SA_SIGINFO | SA_RESETHAND | SA_NODEFER | SA_ONSTACK};
     sigfillset(&action.sa_mask);
     for (size_t one = 0; one < sizeof deadly / sizeof *deadly; one++) sigdelset(&action.sa_mask, deadly[one]);
     return action;
 }
 
-/* The program is told of its own handlers only. */
-EXPORT int sigaction(int signal, const struct sigaction *action, struct sigaction *before) {
-    REAL(int, sigaction, int, const struct sigaction *, struct sigaction *)
-    struct sigaction ours = at_the_end();
-    bool kills = action && aero_log.number >= 0 && is_deadly(signal) && action->sa_handler == SIG_DFL;
-    int result = real(signal, kills ? &ours : action, before);
-    if (!result && before && before->sa_sigaction == ends_by) *before = (struct sigaction){.sa_handler = SIG_DFL};
-    return result;
-}
-EXPORT void (*signal(int number, void (*handler)(int)))(int) {
-    typedef void (*handler_type)(int);
-    REAL(handler_type, signal, int, handler_type)
-    struct sigaction by_default = {.sa_handler = SIG_DFL};
-    handler_type before = real(number, handler);
-    if (before != SIG_ERR && handler == SIG_DFL) sigaction(number, &by_default, NULL);
-    return before == (handler_type)(void (*)(void))ends_by ? SIG_DFL : before;
-}
-
 void aero_ends_start(void) {
-    struct sigaction by_default = {.sa_handler = SIG_DFL}, now;
     aero_owner = getpid();
     aero_take_signal_stack();
-    for (size_t one = 0; one < sizeof deadly / sizeof *deadly; one++)
-        if (!sigaction(deadly[one], NULL, &now) && now.sa_handler == SIG_DFL) sigaction(deadly[one], &by_default, NULL);
 }

@@ -40,8 +40,9 @@
  * signal came while it was written.
  *
  *   fork()       the child logs nothing; where the target has %p it begins a log of its own, in which it is T1. The parent goes on.
- *   signals      a handler's events are its thread's. Those of one that interrupts the logger itself aren't logged. Where such a
- *                one leaves by longjmp, the event that was about to be logged isn't; while the log is written out, it ends.
+ *   signals      a handler's events are its thread's. One that comes into the logger waits until its thread leaves that (signals.c).
+ *                Of a handler that no function of the C library has set, which comes at once, nothing is logged then; where it
+ *                leaves by longjmp, the event that was about to be logged isn't; while the log is written out, it ends.
  *   longjmp      the functions that it leaves end there. C++ exceptions and pthread_exit end the blocks that they leave.
  *   a thread that ends within blocks or with locks: they are ended and released there.
  *   errors       one line on standard error, and the program goes on unlogged. What was written ends with a whole line.
@@ -62,6 +63,7 @@
 /* More than a line ever has. */
 #define MOST_LINE 4096
 #define LOG_BUFFER (1 << 20)
+#define MOST_THREADS 65536
 
 atomic_int aero_state;
 int aero_grain;
@@ -77,9 +79,17 @@ static char buffer[LOG_BUFFER];
 static volatile size_t used, sent;
 static uint64_t written, limit;          /* written: without what the buffer has */
 
-void *aero_next(const char *name, const char *version) {
-    void *found = version ? dlvsym(RTLD_NEXT, name, version) : NULL;
-    return found ? found : dlsym(RTLD_NEXT, name);
+void *aero_next(struct next *next) {
+    void *found = next->version ? dlvsym(RTLD_NEXT, next->name, next->version) : NULL;
+    if (!found) found = dlsym(RTLD_NEXT, next->name);
+    atomic_store_explicit(&next->function, found, memory_order_relaxed);
+    return found;
+}
+
+/* The linker names the two ends of the section. */
+void aero_find_next(void) {
+    extern struct next *const __start_aero_nexts[], *const __stop_aero_nexts[];
+    for (struct next *const *one = __start_aero_nexts; one < __stop_aero_nexts; one++) aero_next(*one);
 }
 
 /* By the system call, since mmap itself is one of the functions that are logged. */
@@ -104,7 +114,21 @@ bool aero_has_room(void **items, size_t size, size_t count, size_t *room) {
     return true;
 }
 
-int aero_next_number(void) { return atomic_fetch_add(&last_number, 1) + 1; }
+/* The checker takes no more threads. */
+static void stop_before_too_many(void) {
+    int before = aero_me.busy;
+    aero_me.busy = 1;
+    aero_lock();
+    aero_flush();
+    aero_stop("it has more than 65536 threads");
+    aero_unlock();
+    aero_be_busy_as(before);
+}
+int aero_next_number(void) {
+    int number = atomic_fetch_add(&last_number, 1) + 1;
+    if (UNLIKELY(number == MOST_THREADS + 1)) stop_before_too_many();
+    return number;
+}
 void aero_number(int number) {
     aero_me.number = number;
     aero_me.length = snprintf(aero_me.prefix, sizeof aero_me.prefix, "T%d|", number);
@@ -181,7 +205,7 @@ static void take_back(int signal, const sigset_t *pending) {
     if (!sigismember(pending, signal)) sigtimedwait(&one, NULL, &none);
 }
 
-/* Signals wait, but for those by which somebody ends a program: they come while a pipe is waited for. */
+/* Signals wait, but for those by which somebody ends a program that doesn't handle them: they come while a pipe is waited for. */
 void aero_flush(void) {
     static const int through[] = {SIGINT, SIGTERM, SIGQUIT, SIGHUP, SIGABRT};
     if (!used || aero_log.number < 0) return;
@@ -191,7 +215,7 @@ void aero_flush(void) {
     pthread_sigmask(SIG_BLOCK, &all, &before);
     masked = all;
     for (size_t one = 0; one < sizeof through / sizeof *through; one++)
-        if (!sigismember(&before, through[one])) sigdelset(&masked, through[one]);
+        if (!sigismember(&before, through[one]) && !aero_is_handled(through[one])) sigdelset(&masked, through[one]);
     flushing = true;
     bool is_clear = aero_clear();
     if (!is_clear || !write_out(&masked)) {

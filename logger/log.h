@@ -30,15 +30,22 @@ _Static_assert(sizeof(uintptr_t) == 8, "addresses have 64 bits");
 #define HERE ((uintptr_t)__builtin_return_address(0))
 #define FRAME ((uintptr_t)__builtin_dwarf_cfa())
 
-/* The next function of that name behind the program's own: that of the C library. */
-void *aero_next(const char *name, const char *version);
+/* The next function of that name behind the program's own: that of the C library. All are looked up at the start, since a signal
+ * handler or a child of vfork() may be the first to call one; a library that comes later has its own looked up by who calls them. */
+struct next {
+    const char *name, *version;
+    _Atomic(void *) function;
+};
+void *aero_next(struct next *next);
+void aero_find_next(void);
+/* (`retain` is for linkers that leave sections out) */
+#define LISTED __attribute__((section("aero_nexts"), used, retain))
 #define REAL_VERSION(result, name, version, ...) \
-    static result (*_Atomic real_##name)(__VA_ARGS__); \
-    result (*real)(__VA_ARGS__) = atomic_load_explicit(&real_##name, memory_order_relaxed); \
-    if (UNLIKELY(!real)) { \
-        *(void **)&real = aero_next(#name, version); \
-        atomic_store_explicit(&real_##name, real, memory_order_relaxed); \
-    }
+    static struct next next_##name = {#name, version, NULL}; \
+    static struct next *const listed_##name LISTED = &next_##name; \
+    result (*real)(__VA_ARGS__); \
+    *(void **)&real = atomic_load_explicit(&next_##name.function, memory_order_relaxed); \
+    if (UNLIKELY(!real)) *(void **)&real = aero_next(&next_##name);
 #define REAL(result, name, ...) REAL_VERSION(result, name, NULL, __VA_ARGS__)
 
 /* A function that was entered. */
@@ -70,7 +77,9 @@ struct locking {
 
 struct thread {
     int number;              /* from 1; 0: it has none yet */
-    volatile int busy;       /* in the logger: what a signal handler does meanwhile isn't logged */
+    volatile int busy;       /* in the logger: a signal handler waits until it isn't */
+    volatile int waits;      /* one waits; signals.c */
+    volatile int aborts;     /* abort() has begun, and wasn't left by longjmp */
     int error;               /* errno as the program had it */
     bool jumped;             /* functions may have been left without their hook, as by exec in a child of vfork */
     bool cancels;            /* asynchronous cancelling was asked for; threads.c */
@@ -81,6 +90,7 @@ struct thread {
     size_t depth, room;
     size_t leading;          /* so many frames, from the first one, are functions of the runtime */
     uintptr_t outside;       /* in a function of the runtime: where code that isn't of it has called that; else 0 */
+    size_t handler;          /* in a signal handler: one more than the frames that were there before; else 0 */
     struct held few[FEW_HELD], *held;    /* the first ones, and those behind them */
     size_t holds, held_room;
     struct locking locking;
@@ -119,7 +129,7 @@ static inline void aero_unlock(void) { aero_let_go(&aero_log_lock); }
 static inline bool aero_writes(void) { return aero_has(&aero_log_lock); }   /* whether the calling thread holds the log's lock */
 void aero_interrupted(void);         /* a signal handler that came into the logger leaves it by longjmp */
 void aero_number(int number);        /* gives the calling thread its number */
-int aero_next_number(void);
+int aero_next_number(void);          /* none of the logger's locks is held */
 void aero_say(const char *what, const char *why);   /* one line on standard error */
 void aero_stop(const char *why);     /* says why on standard error; the log's lock is held */
 void aero_flush(void);               /* writes out what is there; the log's lock is held */
@@ -136,19 +146,35 @@ void aero_line(const char *operation, const char *kind, uintptr_t address, const
 /* The same as an event of its own, which takes the log's lock. */
 void aero_event(const char *operation, const char *kind, uintptr_t address, uintptr_t code);
 
+/* signals.c */
+void aero_handle(void);              /* runs the handler that waits */
+void aero_call_on(char *stack, void (*what)(void *), void *with);    /* whose last byte lies before `stack` */
+void aero_forget_handler(void);      /* drops it: it is the parent's */
+bool aero_is_handled(int signal);    /* whether the program has a handler for it now, which is no fault's */
+void aero_signals_start(void);
+
+/* threads.c */
+void aero_meet_thread(void);         /* the calling one, which has no number yet */
+
 /* Whether the calling thread is to log what it does now. If so it calls aero_leave behind it. */
 static inline bool aero_enter(void) {
     if (LIKELY(atomic_load_explicit(&aero_state, memory_order_relaxed) != ON) || UNLIKELY(aero_me.busy)) return false;
     aero_me.busy = 1;
     atomic_signal_fence(memory_order_seq_cst);
     aero_me.error = errno;
-    if (UNLIKELY(!aero_me.number)) aero_number(aero_next_number());
+    if (UNLIKELY(!aero_me.number)) aero_meet_thread();
     return true;
+}
+/* Makes the thread as busy as it was before, and runs the handler that waits for that, if there is one. */
+static inline void aero_be_busy_as(int before) {
+    atomic_signal_fence(memory_order_seq_cst);
+    aero_me.busy = before;
+    atomic_signal_fence(memory_order_seq_cst);
+    if (UNLIKELY(aero_me.waits) && !before) aero_handle();
 }
 static inline void aero_leave(void) {
     errno = aero_me.error;
-    atomic_signal_fence(memory_order_seq_cst);
-    aero_me.busy = 0;
+    aero_be_busy_as(0);
 }
 
 /* Before an event of compiled code: where asynchronous cancelling was asked for, the thread may end here. */
@@ -199,14 +225,16 @@ static inline void aero_may_stir(void) {
 void aero_start(void);
 
 /* ends.c */
+struct sigaction;
 extern pid_t aero_owner;             /* the process whose log it is */
 void aero_ends_start(void);
+bool aero_is_deadly(int signal);     /* whether it ends a program that doesn't handle it */
+struct sigaction aero_at_the_end(void);        /* what the logger does then */
+void aero_lock_stacks(void);
+void aero_unlock_stacks(void);
 void aero_finish(void);
 void aero_take_signal_stack(void);             /* for the calling thread */
 void aero_drop_signal_stack(void);
-
-/* calls.c */
-void aero_calls_start(void);
 
 /* processes.c */
 bool aero_processes_start(void);               /* whether the C library calls the logger at fork */
@@ -234,7 +262,7 @@ void aero_unlock_names(void);
 const struct code *aero_code(uintptr_t at);           /* NULL where memory is refused */
 const struct code *aero_function(uintptr_t at);       /* with its label and its kind */
 /* Calls `each` with the label, the symbol and the object's file of each function that has hooks, of the file or of all by NULL,
- * until it returns 0. */
+ * until it returns 0; once its labels are made. */
 void aero_each_function(const char *file, bool (*each)(const char *label, const char *symbol, const char *file));
 char *aero_put_hex(char *to, uintptr_t number);
 char *aero_put_text(char *to, const char *text);

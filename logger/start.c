@@ -26,10 +26,11 @@ void aero_start(void) {
     if (!is_called() || !aero_open(target)) return;
     aero_write_to(target);
     aero_ends_start();
+    aero_signals_start();
     atomic_store(&aero_state, ON);
 }
 __attribute__((constructor(101))) static void early(void) {
-    aero_calls_start();
+    aero_find_next();
     aero_start();
 }
 /* Each file of code that has hooks calls it at its start, also where dlopen loads it. */

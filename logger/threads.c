@@ -22,6 +22,18 @@ static lock_word joinable_lock;
 
 void aero_lock_threads(void) { aero_take(&joinable_lock); }
 void aero_unlock_threads(void) { aero_let_go(&joinable_lock); }
+/* The same where a signal handler may come, which waits meanwhile. */
+static int lock_joinable(void) {
+    int before = aero_me.busy;
+    aero_me.busy = before + 1;
+    atomic_signal_fence(memory_order_seq_cst);
+    aero_lock_threads();
+    return before;
+}
+static void unlock_joinable(int before) {
+    aero_unlock_threads();
+    aero_be_busy_as(before);
+}
 void aero_forget_threads(void) {
     joinable_count = 0;
     atomic_store(&joinable_lock.sleepers, 0);
@@ -68,20 +80,20 @@ static void note(pthread_t id, int number) {
 static int take(pthread_t id) {
     int number = 0;
     if (atomic_load_explicit(&aero_state, memory_order_relaxed) != ON) return 0;
-    aero_lock_threads();
+    int before = lock_joinable();
     size_t place = place_of(id, false);
     if (place < joinable_count) {
         number = joinable[place].number;
         joinable[place].number = 0;
     }
-    aero_unlock_threads();
+    unlock_joinable(before);
     return number;
 }
 
 static void note_again(pthread_t id, int number) {
-    aero_lock_threads();
+    int before = lock_joinable();
     note(id, number);
-    aero_unlock_threads();
+    unlock_joinable(before);
 }
 
 static void thread_line(const char *operation, int number, uintptr_t code) {
@@ -152,10 +164,10 @@ static void let_go(struct seed *seed) {
     if (atomic_fetch_sub(&seed->users, 1) == 1) __libc_free(seed);
 }
 static void note_once(struct seed *seed, pthread_t id) {
-    aero_lock_threads();
+    int before = lock_joinable();
     if (!seed->noted) note(id, seed->number);
     seed->noted = true;
-    aero_unlock_threads();
+    unlock_joinable(before);
     let_go(seed);
 }
 
@@ -169,6 +181,12 @@ static void renew_stack(void) {
     pthread_attr_destroy(&attributes);
 }
 
+/* The C library has started it, for a timer or for input and output by aio: the stack may have been another one's too. */
+void aero_meet_thread(void) {
+    aero_number(aero_next_number());
+    renew_stack();
+}
+
 static struct seed grow(void *given) {
     struct seed seed = *(struct seed *)given;
     aero_me.busy = 1;
@@ -177,7 +195,7 @@ static struct seed grow(void *given) {
     note_once(given, pthread_self());
     aero_end_with_thread();
     aero_take_signal_stack();
-    aero_me.busy = 0;
+    aero_be_busy_as(0);
     return seed;
 }
 static void *run(void *given) {
