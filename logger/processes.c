@@ -8,29 +8,38 @@
 /* ---- fork */
 
 static bool forked_within;               /* by a signal handler that has come into the logger */
+static bool is_forked;                   /* with a log: else there is nothing to do */
 static bool is_child;
 
 bool aero_is_child(void) { return is_child; }
 
 /* The log is written out first, as the parent may end without a word, by daemon(). */
 static void before_fork(void) {
+    is_forked = aero_log.number >= 0;
+    if (!is_forked) return;
     bool within = aero_writes();
     aero_me.busy++;
     if (!within) {
-        if (!aero_me.number) aero_number(aero_next_number());
+        if (!aero_me.number) aero_meet_thread();
         aero_lock();
         aero_flush();
     }
     aero_lock_names();
     aero_lock_threads();
+    aero_lock_stacks();
     forked_within = within;
 }
-static void in_parent(void) {
-    bool within = forked_within;
+static void unlock_all(void) {
+    aero_unlock_stacks();
     aero_unlock_threads();
     aero_unlock_names();
+}
+static void in_parent(void) {
+    if (!is_forked) return;
+    bool within = forked_within;
+    unlock_all();
     if (!within) aero_unlock();
-    aero_me.busy--;
+    aero_be_busy_as(aero_me.busy - 1);
 }
 
 /* Begins a log of the child's own, in which what it holds, has open and was started by is forgotten. */
@@ -39,7 +48,7 @@ static void log_child(void) {
     aero_owner = getpid();
     is_child = true;
     aero_number(aero_next_number());
-    aero_me.holds = 0;
+    aero_forget_locks();
     aero_forget_blocks();
     aero_forget_threads();
     atomic_store(&aero_log_lock.sleepers, 0);
@@ -49,18 +58,28 @@ static void log_child(void) {
     atomic_store(&aero_state, ON);
 }
 static void in_child(void) {
+    if (!is_forked) return;
     bool within = forked_within, logs = atomic_load(&aero_state) == ON && aero_target_is_of_process(aero_settings.target);
     atomic_store(&aero_state, OFF);
-    aero_unlock_threads();
-    aero_unlock_names();
+    unlock_all();
     aero_close();
     aero_end_command(false);
     aero_empty();
     aero_unlock();
+    aero_forget_handler();
     if (logs) log_child();
     aero_me.busy = within;
 }
-bool aero_processes_start(void) { return !pthread_atfork(before_fork, in_parent, in_child); }
+
+/* Handlers of others, and what they call, may wait for threads that wait for the log. So the logger's own come first of all: the
+ * C library calls the first one last before a fork, and first behind it. */
+static bool is_registered;
+static void at_first(void) { is_registered = !pthread_atfork(before_fork, in_parent, in_child); }
+__attribute__((section(".preinit_array"), used)) static void (*const before_all)(void) = at_first;
+bool aero_processes_start(void) {
+    if (!is_registered) at_first();
+    return is_registered;
+}
 
 /* ---- children that another way has made, without what pthread_atfork has */
 

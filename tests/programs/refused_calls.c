@@ -19,11 +19,23 @@ static int on;
 static long count;
 static long (*real_syscall)(long, ...);
 
+/* The value of the variable, or NULL; the C library may not have begun, so that getenv knows none. */
+static const char *value(const char *name) {
+    static char all[1 << 17];
+    size_t length = strlen(name), end = 0;
+    long file = syscall(SYS_openat, AT_FDCWD, "/proc/self/environ", O_RDONLY), more;
+    while (end < sizeof all - 1 && (more = syscall(SYS_read, file, all + end, sizeof all - 1 - end)) > 0) end += (size_t)more;
+    syscall(SYS_close, file);
+    for (char *one = all; one < all + end; one += strlen(one) + 1)
+        if (strncmp(one, name, length) == 0 && one[length] == '=') return one + length + 1;
+    return NULL;
+}
+
 __attribute__((constructor)) static void begin(void) {
     *(void **)&real_syscall = dlsym(RTLD_NEXT, "syscall");
-    at = getenv("AT") ? atol(getenv("AT")) : 0;
-    on = getenv("ON") != NULL;
-    refused = getenv("REFUSE");
+    at = value("AT") ? atol(value("AT")) : 0;
+    on = value("ON") != NULL;
+    refused = value("REFUSE");
 }
 
 /* Whether this call is refused: of those that are counted, where they are so called. */
@@ -130,9 +142,19 @@ REFUSES(ftruncate, -1, EIO, (file, size), int file, off_t size)
 REFUSES(sigaltstack, -1, EIO, (now, before), const stack_t *now, stack_t *before)
 REFUSES(pthread_key_create, EAGAIN, EAGAIN, (key, end), pthread_key_t *key, void (*end)(void *))
 REFUSES(pthread_setspecific, ENOMEM, ENOMEM, (key, value), pthread_key_t key, const void *value)
-REFUSES(__register_atfork, ENOMEM, ENOMEM, (before, in_parent, in_child, object),
-        void (*before)(void), void (*in_parent)(void), void (*in_child)(void), void *object)
 REFUSES(__cxa_at_quick_exit, -1, ENOMEM, (end, object), void (*end)(void *), void *object)
+
+/* It is called before this library begins. */
+int __register_atfork(void (*before)(void), void (*in_parent)(void), void (*in_child)(void), void *object) {
+    static int (*real)(void (*)(void), void (*)(void), void (*)(void), void *);
+    if (refused == NULL)
+        begin();
+    if (is_refused("__register_atfork", ENOMEM))
+        return ENOMEM;
+    if (real == NULL)
+        *(void **)&real = dlsym(RTLD_NEXT, "__register_atfork");
+    return real(before, in_parent, in_child, object);
+}
 
 /* Only for files with great numbers, as the logger's. They are closed nevertheless. */
 int close(int file) {
