@@ -207,33 +207,58 @@ static int run_c11(void *given) {
     return seed.run_c11(seed.with);
 }
 
+/* A stack that the program has asked to be small gets room for what the hooks take, unless it is memory of the program's. */
+static const pthread_attr_t *with_room(const pthread_attr_t *given, pthread_attr_t *ours) {
+    enum { ENOUGH = 1 << 18, MORE = 1 << 16 };
+    void *low;
+    size_t size;
+    if (!given || pthread_attr_getstack(given, &low, &size) || (uintptr_t)low + size) return given;
+    if (pthread_attr_getstacksize(given, &size) || size >= ENOUGH) return given;
+    *ours = *given;
+    return pthread_attr_setstacksize(ours, size + MORE) ? given : ours;
+}
+
 /* The fork is logged before the thread is there. */
-#define CREATE(name, attributes_given, field, runs, ...) \
+#define CREATE(name, attributes_given, enlarge, field, runs, ...) \
     EXPORT int name(__VA_ARGS__) { \
         REAL(int, name, __VA_ARGS__) \
         aero_start(); \
         struct seed *seed = NULL; \
         if (atomic_load(&aero_state) == ON) seed = new_seed((struct seed){.field = start, .with = with}, HERE); \
         if (!seed) return real(id attributes_given, start, with); \
+        enlarge \
         int refused = real(id attributes_given, runs, seed); \
         if (refused) __libc_free(seed); \
         else note_once(seed, *id); \
         return refused; \
     }
 #define ATTRIBUTES , attributes
-CREATE(pthread_create, ATTRIBUTES, run, run, pthread_t *id, const pthread_attr_t *attributes,
+#define ENLARGE pthread_attr_t larger; attributes = with_room(attributes, &larger);
+CREATE(pthread_create, ATTRIBUTES, ENLARGE, run, run, pthread_t *id, const pthread_attr_t *attributes,
        void *(*start)(void *), void *with)
-CREATE(thrd_create, , run_c11, run_c11, thrd_t *id, thrd_start_t start, void *with)
+CREATE(thrd_create, , , run_c11, run_c11, thrd_t *id, thrd_start_t start, void *with)
 
 /* ---- joins */
 
-/* The number is taken before the wait, since the system may use the id again at once behind it. */
+/* The number is taken before the wait, since the system may use the id again at once behind it. Where the thread is cancelled in the
+ * wait, another one may still join. */
+struct join {
+    pthread_t id;
+    int number;
+};
+static void is_not_joined(void *given) {
+    struct join *join = given;
+    if (join->number) note_again(join->id, join->number);
+}
 #define JOIN(name, id_type, extra, ...) \
     EXPORT int name(id_type id, __VA_ARGS__) { \
         REAL(int, name, id_type, __VA_ARGS__) \
-        int number = take(id), refused = real extra; \
-        if (number && refused) note_again(id, number); \
-        if (number && !refused) thread_line("join", number, HERE); \
+        struct join join = {id, take(id)}; \
+        int refused; \
+        pthread_cleanup_push(is_not_joined, &join) \
+        refused = real extra; \
+        pthread_cleanup_pop(refused); \
+        if (join.number && !refused) thread_line("join", join.number, HERE); \
         return refused; \
     }
 JOIN(pthread_join, pthread_t, (id, result), void **result)
