@@ -52,6 +52,114 @@ static void put_within(char *to, const char *text, size_t most) {
     *to = 0;
 }
 
+/* ---- symbols that are too long for the C++ runtime, which reads at most 1,024 bytes. Of these the path is read, with <...> in the
+ * place of a template's arguments; what isn't understood leaves the symbol as it is. */
+
+static const char *behind_end(const char *at, bool is_expression);
+
+/* Behind the name of so many bytes that begins there, or NULL. */
+static const char *behind_name(const char *at, const char **from, size_t *length) {
+    char *end;
+    if (*at < '1' || *at > '9') return NULL;
+    *length = strtoul(at, &end, 10);
+    *from = end;
+    return strnlen(end, *length) < *length ? NULL : end + *length;
+}
+static const char *behind_line(const char *at) {
+    at += strcspn(at, "_");
+    return *at ? at + 1 : NULL;
+}
+
+/* Behind a constant: its type, its digits and an E, or a symbol. */
+static const char *behind_constant(const char *at) {
+    const char *from;
+    size_t length;
+    if (!strncmp(at, "_Z", 2)) return behind_end(at + 2, false);
+    if (*at == 'N') at = behind_end(at + 1, false);
+    else if (*at >= '1' && *at <= '9') at = behind_name(at, &from, &length);
+    else if (*at == 'S') at = at[1] >= 'a' ? at + 2 : behind_line(at);
+    else at += *at == 'D' ? 2 : 1;
+    return at ? behind_end(at + strspn(at, "n0123456789abcdef"), false) : NULL;
+}
+
+static const char *behind_d(const char *at) {
+    if (at[1] && strchr("tTOw", at[1])) return behind_end(at + 2, at[1] != 'w');
+    if (at[1] == 'v' && at[2] >= '0' && at[2] <= '9') return behind_line(at);
+    return at[1] ? at + 2 : NULL;
+}
+
+/* Behind one part of what stands within brackets. */
+static const char *behind_part(const char *at, bool is_expression) {
+    static const char calls[][3] = {"cl", "il", "tl", "nw", "na"};
+    const char *from;
+    size_t length;
+    for (size_t one = 0; is_expression && one < sizeof calls / sizeof *calls; one++)
+        if (!strncmp(at, calls[one], 2)) return behind_end(at + 2, true);
+    if (is_expression && *at == 'f' && (at[1] == 'p' || at[1] == 'L')) return behind_line(at);
+    switch (*at) {
+    case 0: return NULL;
+    case 'L': return behind_constant(at + 1);
+    case 'A': return at[1] >= '0' && at[1] <= '9' ? behind_line(at) : at + 1;
+    case 'D': return behind_d(at);
+    case 'S': return at[1] >= 'a' ? at + 2 : behind_line(at);
+    case 'T': return behind_line(at);
+    case 'N': case 'I': case 'J': case 'F': case 'Z': return behind_end(at + 1, false);
+    case 'X': return behind_end(at + 1, true);
+    case 'U': return at[1] == 'l' ? behind_end(at + 2, false) : at[1] == 't' ? behind_line(at) : at + 1;
+    default: return *at >= '1' && *at <= '9' ? behind_name(at, &from, &length) : at + 1;
+    }
+}
+/* Behind the E of what began before `at`. */
+static const char *behind_end(const char *at, bool is_expression) {
+    while (at && *at != 'E') at = behind_part(at, is_expression);
+    return at ? at + 1 : NULL;
+}
+
+/* Puts a part of the path, and returns what is behind it in the symbol; NULL: it isn't understood. `last` is where the last name was
+ * put, whose constructor may follow. */
+static const char *put_step(char **to, char **last, size_t *last_length, const char *at) {
+    const char *from, *behind;
+    size_t length;
+    at += *at == 'L';
+    if (*at == 'I') {
+        *to = aero_put_text(*to, "<...>");
+        return behind_end(at + 1, false);
+    }
+    bool is_std = !strncmp(at, "St", 2), is_own = (*at == 'C' || *at == 'D') && at[1] >= '0' && at[1] <= '9';
+    if (is_std) from = "std", length = 3, behind = at + 2;
+    else if (is_own && *last) from = *last, length = *last_length, behind = at + 2;
+    else behind = behind_name(at, &from, &length);
+    if (!behind) return NULL;
+    if (*last) *to = aero_put_text(*to, "::");
+    if (is_own && *at == 'D') *(*to)++ = '~';
+    *last = *to;
+    *last_length = length;
+    memcpy(*to, from, length);
+    *to += length;
+    return behind;
+}
+
+/* The path, in memory that is the caller's; NULL where it isn't understood. */
+static char *path_of(const char *symbol) {
+    const char *at = symbol + 2;
+    bool is_nested = *at == 'N';
+    char *path = malloc(6 * strlen(symbol)), *to = path, *last = NULL;
+    size_t last_length = 0;
+    if (is_nested) at += 1 + strspn(at + 1, "rVK");
+    if (is_nested) at += strspn(at, "RO");
+    while (path && at && *at && *at != 'E') {
+        at = put_step(&to, &last, &last_length, at);
+        /* (behind the name of a function that isn't nested its parameters begin) */
+        if (!is_nested && at && *at != 'I' && strncmp(symbol + 2, "St", 2)) break;
+    }
+    if (path) *to = 0;
+    if (path && at && (!is_nested || *at == 'E')) return path;
+    free(path);
+    return NULL;
+}
+
+/* ---- labels */
+
 /* A suffix of the compiler or of a version, as in pay.constprop.0 and environ@GLIBC, goes. The parts of a coroutine, as in
  * _Z4loopPZ4loopvE13_Z4loopv.Frame.actor, have it in the midst of their names too. */
 static char *readable_cpp(const char *symbol, bool is_function) {
@@ -61,6 +169,7 @@ static char *readable_cpp(const char *symbol, bool is_function) {
     size_t length = strcspn(symbol, ".@");
     char *plain = whole ? NULL : length ? strndup(symbol, length) : strdup(symbol);
     char *readable = whole || !plain || !is_mangled ? whole : __cxa_demangle(plain, NULL, NULL, NULL);
+    if (!readable && plain && is_mangled && length > 1024) readable = path_of(plain);
     if (clone) *clone = 0;
     if (!readable) return plain;
     free(plain);

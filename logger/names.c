@@ -13,14 +13,16 @@
 struct object {
     uintptr_t low, high, bias;
     uintptr_t head;          /* where the first bytes of its file lie; 0: nowhere */
-    char name[64];           /* of its file, without folders */
+    const char *name;        /* of its file, without folders; at most MOST_FILE bytes */
     char *path;
     struct table functions;  /* those of code that has hooks */
+    const char **labels;     /* theirs; NULL: not made yet */
     bool is_read;            /* they were looked for */
     bool is_missing;         /* the file isn't there, or is another one by now */
     bool is_told;            /* that some have no name */
 };
 #define MOST_OBJECTS 4096
+enum { MOST_FILE = 255, MOST_PLACE = MOST_FILE + 32 };
 static struct object objects[MOST_OBJECTS];
 static int object_count;
 
@@ -181,8 +183,11 @@ static struct object *object_at(uintptr_t at) {
     const char *path = *search.path ? search.path : find_program(&now, search.path, sizeof search.path);
     const char *folder = strrchr(search.path, '/'), *shown = folder ? folder + 1 : search.path;
     struct object *object = place_for_object();
+    char name[MOST_FILE + 1] = "";
     if (!object) return NULL;
-    for (size_t place = 0; shown[place] && place < sizeof now.name - 1; place++) now.name[place] = aero_fitting(shown[place]);
+    for (size_t place = 0; shown[place] && place < MOST_FILE; place++) name[place] = aero_fitting(shown[place]);
+    const char *kept = keep_text(name);
+    now.name = kept ? kept : "";
     now.path = keep_text(path);
     *object = now;
     return object;
@@ -211,6 +216,42 @@ static struct table read_object(struct object *object) {
     object->functions = aero_symbols(image, STT_FUNC, object->bias);
     if (is_program(object) && !has_main(&object->functions)) aero_lacks_main(object->name);
     return aero_symbols(image, STT_OBJECT, object->bias);
+}
+
+/* ---- labels */
+
+/* They are made where the program starts or a library is loaded: to make one takes memory of the program's allocator, which a signal
+ * handler may have interrupted, and much of a stack. So no lock of the logger's is held. */
+struct making {
+    struct table functions;
+    const char **labels;
+};
+static void make_labels(void *given) {
+    struct making *making = given;
+    enum { CHUNK = 1 << 16 };
+    char *to = NULL, *end = NULL;
+    making->labels = aero_pages(making->functions.count * sizeof *making->labels);
+    for (size_t place = 0; making->labels && place < making->functions.count; place++) {
+        if (end - to <= MOST_NAME && (to = aero_pages(CHUNK))) end = to + CHUNK;
+        if (!to) {
+            making->labels = NULL;
+            return;
+        }
+        making->labels[place] = to;
+        aero_put_label(to, making->functions.symbols[place].name, true, MOST_NAME);
+        to += strlen(to) + 1;
+    }
+}
+static void label_functions(struct object *object, struct table functions) {
+    enum { STACK = 1 << 20 };
+    struct making making = {functions, NULL};
+    char *stack = functions.count ? aero_pages(STACK) : NULL;
+    if (!stack) return;
+    aero_call_on(stack + STACK, make_labels, &making);
+    aero_free_pages(stack, STACK);
+    aero_lock_names();
+    if (object->functions.symbols == functions.symbols) object->labels = making.labels;
+    aero_unlock_names();
 }
 
 /* ---- global variables */
@@ -299,8 +340,9 @@ void aero_names_start(void) {
     aero_unlock_names();
     for (int place = 0; place < count; place++) {
         aero_lock_names();
-        struct table variables = read_object(&objects[place]);
+        struct table variables = read_object(&objects[place]), functions = objects[place].functions;
         aero_unlock_names();
+        label_functions(&objects[place], functions);
         add_variables(variables);
     }
 }
@@ -331,10 +373,12 @@ void aero_library_loaded(uintptr_t code) {
     struct object *object = object_at(code);
     bool is_new = object && !object->is_read;
     struct table variables = is_new ? read_object(object) : (struct table){NULL, 0};
+    struct table functions = is_new ? object->functions : (struct table){NULL, 0};
     bool is_missing = object && object->is_missing && !object->is_told;
     if (is_missing) object->is_told = true;
     aero_unlock_names();
     if (is_missing) aero_lacks_file(object->name);
+    label_functions(object, functions);
     add_variables(variables);
     if (is_new && object->functions.count) aero_look_for_blocks(object->name);
 }
@@ -350,7 +394,7 @@ static char *put_place(char *to, uintptr_t at) {
 }
 
 static struct code *new_code(uintptr_t at) {
-    char place[128], *end = place;
+    char place[MOST_PLACE], *end = place;
     if (aero_settings.places) {
         *end++ = '|';
         /* (the call that the code at the address returns from) */
@@ -365,6 +409,13 @@ static struct code *new_code(uintptr_t at) {
     return code;
 }
 
+/* Of so many places in the code none has a place in the table any more. */
+static void tell_of_full_table(void) {
+    static atomic_int is_told;
+    if (!atomic_exchange(&is_told, 1))
+        aero_say("the code", "it has too many places, or memory is refused: further events have no place, and further functions are no blocks");
+}
+
 const struct code *aero_code(uintptr_t at) {
     size_t first = (at * 0x9e3779b97f4a7c15u) >> (64 - CODE_BITS);
     for (size_t tries = 0; tries < MOST_TRIES; tries++) {
@@ -376,30 +427,37 @@ const struct code *aero_code(uintptr_t at) {
         code = atomic_load_explicit(slot, memory_order_acquire);
         if (!code || !code->at) atomic_store_explicit(slot, code = new_code(at), memory_order_release);
         aero_unlock_names();
-        if (!code || code->at == at) return code;
+        if (!code) break;
+        if (code->at == at) return code;
     }
+    tell_of_full_table();
     return NULL;
 }
 
-/* The name is made out without the lock, as that allocates memory, which another thread may have been interrupted in. */
+/* The label of a function that has no name, or none made yet, in `label`. */
+static const char *label_now(const struct symbol *symbol, const char *nameless, char *label) {
+    aero_put_label(label, symbol ? symbol->name : nameless, symbol != NULL, MOST_NAME);
+    return label;
+}
+
+/* The kind is made out without the lock, and so is a label that isn't made yet. */
 const struct code *aero_function(uintptr_t at) {
     struct code *code = (struct code *)aero_code(at);
     if (!code || LIKELY(atomic_load_explicit(&code->label, memory_order_acquire) != NULL)) return code;
-    char nameless[128], label[MOST_NAME + 1];
+    char nameless[MOST_PLACE], label[MOST_NAME + 1];
     aero_lock_names();
     struct object *object = object_at(at);
     const struct symbol *symbol = object ? aero_symbol_at(&object->functions, at) : NULL;
+    const char *made = symbol && object->labels ? object->labels[symbol - object->functions.symbols] : NULL;
     bool is_first = object && !symbol && !object->is_told;
     if (is_first) object->is_told = true;
     *put_place(nameless, at) = 0;
     aero_unlock_names();
     if (is_first) aero_lacks_name(object->name);
-    const char *name = symbol ? symbol->name : nameless;
-    if (symbol) aero_put_label(label, name, true, MOST_NAME);
-    else *aero_put_text(label, name) = 0;
-    int kind = aero_kind(label, symbol ? name : NULL, object ? object->name : "");
+    const char *shown = made ? made : label_now(symbol, nameless, label);
+    int kind = aero_kind(shown, symbol ? symbol->name : NULL, object ? object->name : "");
     aero_lock_names();
-    const char *kept = atomic_load(&code->label) ? atomic_load(&code->label) : keep_text(label);
+    const char *kept = atomic_load(&code->label) ? atomic_load(&code->label) : made ? made : keep_text(shown);
     if (kept) atomic_store(&code->kind, kind);
     if (kept) atomic_store_explicit(&code->label, kept, memory_order_release);
     aero_unlock_names();
@@ -413,14 +471,11 @@ bool aero_is_loaded(const char *file, size_t length) {
 }
 
 void aero_each_function(const char *file, bool (*each)(const char *label, const char *symbol, const char *file)) {
-    char label[MOST_NAME + 1];
     for (int place = 0; place < object_count; place++) {
         if (file && strcmp(file, objects[place].name)) continue;
-        const struct table *functions = &objects[place].functions;
-        for (size_t one = 0; one < functions->count; one++) {
-            aero_put_label(label, functions->symbols[one].name, true, MOST_NAME);
-            if (!each(label, functions->symbols[one].name, objects[place].name)) return;
-        }
+        const struct object *it = &objects[place];
+        for (size_t one = 0; it->labels && one < it->functions.count; one++)
+            if (!each(it->labels[one], it->functions.symbols[one].name, it->name)) return;
     }
 }
 
