@@ -12,6 +12,7 @@
  *   write, atomic store, exchange, fetch-and-..        w(X)
  *   memcpy, memmove, memset, a realloc that moves      r and w of each variable in the range
  *   mutex, spin lock; waiting on a condition           acq(X), rel(X); rel(X), then acq(X)
+ *                    that another thread has unlocked  w(X.handed) at each of these from then on
  *   read-write lock: to read, and to give that back    r(rw.X)        readers may overlap, which acq and rel can't say
  *                    to write, and to give that back   w(rw.X)
  *   sem_post, sem_wait                                 w(sem.X.K) before it, r(sem.X.K) after it; semaphores.c says which K
