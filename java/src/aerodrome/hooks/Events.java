@@ -11,15 +11,14 @@ import aerodrome.names.Text;
 /** Lines that several kinds of hooks write. */
 final class Events {
     static final byte[] READ = Text.bytes("r("), WRITE = Text.bytes("w(");
-    private static final byte[] ACQUIRE = Text.bytes("acq("), RELEASE = Text.bytes("rel("), CLASS = Text.bytes(".class");
-    private static final int MOST_CLASS = 200;
+    private static final byte[] ACQUIRE = Text.bytes("acq("), RELEASE = Text.bytes("rel(");
 
     private Events() { }
 
     /** Puts what the object is called: `Bank@12`, or `bank.Bank.class` of a class. */
     static Line putObject(Line line, Object object) {
-        if (!(object instanceof Class)) return line.put(ClassNames.of(object.getClass())).put('@').put(Numbers.of(object));
-        return line.put(Text.bytes(Text.clean(((Class<?>) object).getName(), MOST_CLASS))).put(CLASS);
+        if (object instanceof Class) return line.put(ClassNames.monitor((Class<?>) object));
+        return line.put(ClassNames.of(object.getClass())).put('@').put(Numbers.of(object));
     }
 
     static void end(Line line, int site) { line.put(')').put(Site.get(site).place); }

@@ -8,7 +8,8 @@ public final class FieldName {
     private final boolean isStatic;
 
     public FieldName(Class<?> of, String field, boolean isStatic) {
-        text = Text.bytes(Fields.shown(of.getName().replace('.', '/'), field, isStatic));
+        String name = of.getName().replace('.', '/');
+        text = Text.bytes(isStatic ? Fields.shown(of, field) : Fields.shown(of.getClassLoader(), name, field));
         this.isStatic = isStatic;
     }
 

@@ -11,7 +11,7 @@ public final class Numbers {
     /** What is known of an object that doesn't hold its number. */
     public static final class Entry extends WeakTable.Reference {
         volatile long number;
-        /** What is known of a thread, a queue, a map or a semaphore; the field of an updater or a handle. */
+        /** What is known of a thread, a queue, a map or a semaphore; the field of an updater or a handle; what tells a class from others. */
         public volatile Object tied;
 
         Entry(Object object, int hash, WeakTable of) { super(object, hash, of); }

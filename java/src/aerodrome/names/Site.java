@@ -1,5 +1,6 @@
 package aerodrome.names;
 
+import java.lang.ref.WeakReference;
 import java.util.Arrays;
 
 /** A place in the code from which something is logged. Instrumented code has its number. */
@@ -18,22 +19,25 @@ public final class Site {
     private byte[] text;
     private final char operation;
     private final String owner, field;
+    /** That of the class that has the code. */
+    private final WeakReference<ClassLoader> loader;
     private volatile State state = State.UNKNOWN;
 
-    private Site(byte[] place, byte[] text, char operation, String owner, String field) {
+    private Site(byte[] place, byte[] text, char operation, WeakReference<ClassLoader> loader, String owner, String field) {
         this.place = place;
         this.text = text;
         this.operation = operation;
+        this.loader = loader;
         this.owner = owner;
         this.field = field;
     }
 
-    public static int place(byte[] place) { return add(new Site(place, null, ' ', null, null)); }
+    public static int place(byte[] place) { return add(new Site(place, null, ' ', null, null, null)); }
     public static int block(byte[] place, String label) {
-        return add(new Site(place, Text.bytes("begin(" + Text.clean(label, MOST_LABEL) + ")"), ' ', null, null));
+        return add(new Site(place, Text.bytes("begin(" + Text.clean(label, MOST_LABEL) + ")"), ' ', null, null, null));
     }
-    public static int field(byte[] place, char operation, String owner, String field) {
-        return add(new Site(place, null, operation, owner, field));
+    public static int field(byte[] place, char operation, WeakReference<ClassLoader> loader, String owner, String field) {
+        return add(new Site(place, null, operation, loader, owner, field));
     }
 
     private static synchronized int add(Site made) {
@@ -51,11 +55,21 @@ public final class Site {
         return state == State.LOGGED;
     }
     private void resolve(boolean isStatic) {
-        if (!Fields.isLogged(owner, field)) {
+        ClassLoader by = loader.get();
+        if (!Fields.isLogged(by, owner, field)) {
             state = State.SKIPPED;
             return;
         }
-        text = Text.bytes(operation + "(" + Fields.shown(owner, field, isStatic) + (isStatic ? ")" : "@"));
+        String shown = isStatic ? shownStatic(by) + ")" : Fields.shown(by, owner, field) + "@";
+        text = Text.bytes(operation + "(" + shown);
         state = State.LOGGED;
+    }
+    /** The code has read the field already, so the system knows to which class its name leads. */
+    private String shownStatic(ClassLoader by) {
+        try {
+            return Fields.shown(Class.forName(owner.replace('/', '.'), false, by), field);
+        } catch (ClassNotFoundException | LinkageError unknown) {
+            return Fields.shownByName(by, owner, field);
+        }
     }
 }

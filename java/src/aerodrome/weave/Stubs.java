@@ -45,7 +45,7 @@ final class Stubs {
     /** The stub round such a call, or null where it isn't logged. */
     Stub round(int opcode, String owner, String name, String descriptor, boolean isInterface) {
         if (owner.startsWith("[")) return null;
-        int code = table.code(opcode, owner, name, descriptor);
+        int code = table.code(of.loader(), opcode, owner, name, descriptor);
         if (code == 0 && !Naming.isMade(owner, name)) return null;
         Invocation call = new Invocation(opcode, owner, name, descriptor, isInterface);
         Stub known = byCall.get(call.key());

@@ -105,19 +105,19 @@ public final class Table {
         return null;
     }
 
-    /** How a call is logged, as Kind.code has it; 0 if it isn't. */
-    int code(int opcode, String owner, String name, String descriptor) {
+    /** How a call by code of the loader's classes is logged, as Kind.code has it; 0 if it isn't. */
+    int code(ClassLoader by, int opcode, String owner, String name, String descriptor) {
         if (opcode == INVOKESTATIC && !owner.equals(STATIC_OWNER)) return 0;
         Row row = opcode == INVOKESPECIAL ? null : row(owner, name, descriptor);
-        if (row == null && (opcode == INVOKEVIRTUAL || opcode == INVOKESPECIAL)) row = inherited(opcode, owner, name, descriptor);
+        if (row == null && (opcode == INVOKEVIRTUAL || opcode == INVOKESPECIAL)) row = inherited(by, opcode, owner, name, descriptor);
         return row == null || row.kind.isContents() && !Options.collections ? 0 : row.code;
     }
 
     /** The row of a method that the class may have from one of the JDK: the method's name says so, or what the class extends. */
-    private Row inherited(int opcode, String owner, String name, String descriptor) {
+    private Row inherited(ClassLoader by, int opcode, String owner, String name, String descriptor) {
         Row row = row(ANY, name, descriptor);
         if (row != null) return row;
-        String base = Options.covers(owner) ? Fields.base(owner) : opcode == INVOKESPECIAL ? owner : null;
+        String base = Options.covers(owner) ? Fields.base(by, owner) : opcode == INVOKESPECIAL ? owner : null;
         row = base == null ? null : row(base, name, descriptor);
         return row != null && row.kind.isCollection() ? row : null;
     }

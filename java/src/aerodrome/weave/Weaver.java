@@ -43,7 +43,7 @@ public final class Weaver implements ClassFileTransformer {
         // Accessors that reflection makes.
         if (loader.getClass().getName().startsWith("jdk.internal.reflect")) return null;
         try {
-            return weave(name, bytes);
+            return weave(loader, name, bytes);
         } catch (Throwable wrong) {
             Log.say(name.replace('/', '.') + " isn't logged: " + wrong);
             return null;
@@ -51,14 +51,14 @@ public final class Weaver implements ClassFileTransformer {
     }
 
     /** A method that would be too long has its accesses left out. */
-    private byte[] weave(String name, byte[] bytes) {
+    private byte[] weave(ClassLoader loader, String name, byte[] bytes) {
         Set<String> light = new HashSet<>();
         ClassReader reader = ClassFile.reader(bytes);
         Outline outline = new Outline();
         reader.accept(outline, ClassReader.SKIP_FRAMES);
         for (;;) {
             ClassWriter writer = new ClassWriter(ClassWriter.COMPUTE_MAXS);
-            reader.accept(new WovenClass(writer, table, light, outline), ClassReader.EXPAND_FRAMES);
+            reader.accept(new WovenClass(writer, loader, table, light, outline), ClassReader.EXPAND_FRAMES);
             try {
                 return ClassFile.made(writer.toByteArray(), bytes);
             } catch (MethodTooLargeException wrong) {

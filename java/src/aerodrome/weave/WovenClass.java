@@ -7,6 +7,7 @@ import aerodrome.hooks.Hidden;
 import aerodrome.names.Fields;
 import aerodrome.names.Site;
 import aerodrome.names.Text;
+import java.lang.ref.WeakReference;
 import java.util.Arrays;
 import java.util.Set;
 import org.objectweb.asm.ClassVisitor;
@@ -23,6 +24,7 @@ final class WovenClass extends ClassVisitor {
     private static final String OBJECT = "Ljava/lang/Object;";
     private static final int MOST_SOURCE = 200;
 
+    private final WeakReference<ClassLoader> loader;
     private final Set<String> light;
     private final Outline outline;
     final Stubs stubs;
@@ -37,8 +39,9 @@ final class WovenClass extends ClassVisitor {
      * @param light the methods whose accesses are left out
      * @param outline what is to be known of the class before
      */
-    WovenClass(ClassVisitor to, Table table, Set<String> light, Outline outline) {
+    WovenClass(ClassVisitor to, ClassLoader loader, Table table, Set<String> light, Outline outline) {
         super(ASM9, to);
+        this.loader = new WeakReference<>(loader);
         this.light = light;
         this.outline = outline;
         stubs = new Stubs(this, to, table);
@@ -51,7 +54,7 @@ final class WovenClass extends ClassVisitor {
         source = Text.withoutPackage(name);
         isInterface = (access & ACC_INTERFACE) != 0;
         String[] all = interfaces == null ? new String[0] : interfaces;
-        Fields.note(name, above, all);
+        Fields.note(loader(), name, above, all);
         isNumbered = (access & (ACC_INTERFACE | ACC_MODULE)) == 0 && above != null && !Options.covers(above);
         mayBeCloned = isNumbered && !above.equals("java/lang/Object");
         if (isNumbered) {
@@ -69,7 +72,7 @@ final class WovenClass extends ClassVisitor {
 
     @Override
     public FieldVisitor visitField(int access, String name, String descriptor, String signature, Object value) {
-        Fields.noteField(this.name, name, access);
+        Fields.noteField(loader(), this.name, name, access);
         return super.visitField(access, name, descriptor, signature, value);
     }
 
@@ -121,6 +124,7 @@ final class WovenClass extends ClassVisitor {
 
     // ---- for its methods
 
+    ClassLoader loader() { return loader.get(); }
     boolean isLight(String method, String descriptor) { return light.contains(method + descriptor); }
     boolean isCatching(String method, String descriptor) { return outline.catching.contains(method + descriptor); }
     boolean isAnnotated(String method, String descriptor) { return outline.annotated.contains(method + descriptor); }
@@ -135,4 +139,7 @@ final class WovenClass extends ClassVisitor {
         return Text.bytes("|" + Text.clean(source, MOST_SOURCE) + (line > 0 ? ":" + line : "") + "\n");
     }
     int site(int line) { return Site.place(place(line)); }
+    int site(int line, char operation, String owner, String field) {
+        return Site.field(place(line), operation, loader, owner, field);
+    }
 }

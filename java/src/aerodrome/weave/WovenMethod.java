@@ -164,12 +164,12 @@ final class WovenMethod extends AdviceAdapter {
     public void visitFieldInsn(int opcode, String owner, String name, String descriptor) {
         boolean isOwn = owner.equals(of.name);
         boolean isUnborn = opcode == PUTFIELD && isConstructor && !entered && isOwn;
-        if (isLight || isUnborn || !Options.covers(owner) || isOwn && Fields.has(owner, name) && !Fields.isLogged(owner, name)) {
+        if (isLight || isUnborn || !Options.covers(owner) || isOwn && isSkipped(name)) {
             super.visitFieldInsn(opcode, owner, name, descriptor);
             return;
         }
-        if (Fields.isVolatile(owner, name)) stir();
-        int site = Site.field(of.place(line), opcode == GETFIELD || opcode == GETSTATIC ? 'r' : 'w', owner, name);
+        if (Fields.isVolatile(of.loader(), owner, name)) stir();
+        int site = of.site(line, opcode == GETFIELD || opcode == GETSTATIC ? 'r' : 'w', owner, name);
         if (opcode == GETSTATIC || opcode == PUTSTATIC) {
             readOnce(GETSTATIC, owner, name, descriptor);
             mv.visitLdcInsn(site);
@@ -184,6 +184,10 @@ final class WovenMethod extends AdviceAdapter {
         }
         super.visitFieldInsn(opcode, owner, name, descriptor);
         call(ACCESSES, "done", "()V");
+    }
+    /** Whether the class's own field isn't logged. */
+    private boolean isSkipped(String field) {
+        return Fields.has(of.loader(), of.name, field) && !Fields.isLogged(of.loader(), of.name, field);
     }
     /** Asks whether to wait here, where the options say so. */
     private void stir() {
