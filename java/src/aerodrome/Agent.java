@@ -56,6 +56,7 @@ public final class Agent {
             instrument(with);
         } catch (Throwable failed) {
             Log.say(failed + ": nothing is logged");
+            Log.abandon();
         }
     }
 

@@ -165,6 +165,17 @@ public final class Options {
         return false;
     }
 
+    /** Why no class of the program is logged. */
+    public static String whyNoClass() {
+        if (only.isEmpty() && skip.isEmpty()) return "no class of the program was loaded";
+        String both = (only.isEmpty() ? "" : "only=" + only) + (only.isEmpty() || skip.isEmpty() ? "" : ",")
+                + (skip.isEmpty() ? "" : "skip=" + skip);
+        return both + ": this leaves out every class that was loaded";
+    }
+
+    /** Whether there may be blocks. */
+    public static boolean hasBlocks() { return !blocks.equals("none"); }
+
     /** Whether the method, as a.b.C.m, is a block. One that the compiler made is none unless it is asked for. */
     public static boolean isBlock(String label, boolean isSynthetic, boolean isAnnotated) {
         if (blocks.equals("all")) return true;

@@ -31,6 +31,7 @@ public final class Blocks {
         } finally {
             if (me.line.isWritten) me.open[me.depth++] = LoggedThread.BLOCK;
         }
+        Log.noteBlock();
         Stir.place();
     }
 

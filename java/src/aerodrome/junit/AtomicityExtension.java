@@ -26,6 +26,7 @@ public final class AtomicityExtension implements BeforeTestExecutionCallback, Af
     @Override public void beforeTestExecution(ExtensionContext context) {
         if (!hasAgent())
             throw new ExtensionConfigurationException("no agent: run the tests with -javaagent:aerodrome-agent.jar=log=logs/%t.std");
+        TestLog.asks();
         if (isParallel(context))
             throw new ExtensionConfigurationException("tests run in parallel (" + PARALLEL + "), so a test has no log of its own"
                     + ": annotate the class with @Isolated, or run all tests one after another");

@@ -1,6 +1,7 @@
 package aerodrome.log;
 
 import aerodrome.Options;
+import aerodrome.names.Fields;
 import java.io.FileDescriptor;
 import java.io.FileOutputStream;
 import java.io.IOException;
@@ -37,6 +38,8 @@ public final class Log {
     /** Null between tests. */
     private static Sink sink;
     private static boolean finished;
+    /** Whether a block has begun in the log. */
+    private static boolean hasBlock;
     /** How many tests have had logs, and whether no more is written to the log of this one. */
     private static int tests;
     private static boolean isCut;
@@ -67,7 +70,10 @@ public final class Log {
         test = 0;
         sink = finished ? sink : null;
         unlock();
-        if (ended != null) ended.close();
+        if (ended == null) return;
+        // The extension says of a log that it has no block.
+        if (written == 0) ended.unmark();
+        ended.close();
     }
 
     // ---- the lock
@@ -146,6 +152,11 @@ public final class Log {
         }
     }
 
+    /** Says once that a block has begun. */
+    public static void noteBlock() {
+        if (!hasBlock) hasBlock = true;
+    }
+
     /** Writes the line; the lock is held. */
     public static void append(Line line) {
         if (!takes(line)) return;
@@ -188,9 +199,13 @@ public final class Log {
             flush();
             for (String one : Options.blocksNotMet()) say(one);
         }
+        // Not where the rest couldn't be written.
+        boolean isWhole = on;
         on = false;
         unlock();
         if (!isFirst) return;
+        boolean isEmpty = isWhole && !Options.isOfTests && written == 0;
+        if (isWhole) tellOfLittle();
         try {
             ThreadName.write();
         } catch (IOException wrong) {
@@ -198,9 +213,33 @@ public final class Log {
         }
         if (sink == null) return;
         try {
-            sink.close();
+            if (isEmpty) sink.drop();
+            else sink.close();
         } catch (IOException wrong) {
             say(sink.target + ": " + Sink.why(wrong));
+        }
+    }
+
+    /** A log without a line, or without a block, would be taken for one without a violation. */
+    private static void tellOfLittle() {
+        if (Options.isOfTests) {
+            if (!TestLog.isAsked) say("log=" + Options.log + ": no test that has @Atomicity was run: nothing is logged");
+            return;
+        }
+        String what = written == 0 ? "nothing is logged" : "no block is logged";
+        if (Fields.areNone()) say(Options.whyNoClass() + ": " + what);
+        else if (written == 0) say("no code of the program did anything that is logged: " + what);
+        else if (!hasBlock && Options.hasBlocks()) say("no method that is a block was called: " + what);
+    }
+
+    /** The agent can't log: leaves no log. */
+    public static void abandon() {
+        Sink to = sink;
+        sink = null;
+        try {
+            if (to != null) to.drop();
+        } catch (IOException wrong) {
+            say(to.target + ": " + Sink.why(wrong));
         }
     }
 

@@ -34,11 +34,17 @@ public final class TestLog {
     /** The path of the log that is written now, or null. */
     private static String path;
     private static boolean isShared;
+    /** Whether a test has asked for a log, even if it got none. */
+    static volatile boolean isAsked;
 
     private TestLog() { }
 
+    /** A test that has the extension is about to run. */
+    public static void asks() { isAsked = true; }
+
     /** Begins the log of a test, and returns its path. An exception says why it can't. */
     public static synchronized String begin(String name) throws IOException {
+        asks();
         if (!Log.on) throw new IOException("the agent logs nothing: its line on standard error says why");
         if (!Options.isOfTests)
             throw new IOException("log=" + Options.log + " is one log of all tests: use %t, as in log=logs/%t.std");
