@@ -28,9 +28,9 @@ public final class TestLog {
 
     /** How many logs there are of tests of one name. */
     private static final Map<String, Integer> NAMES = new HashMap<>();
-    /** The threads that run in the test, and the numbers of the tasks that it gave and no thread has taken. */
+    /** The threads that run in the test, and the numbers of the tasks that it gave and no thread has taken, with how often. */
     private static final Queue<Thread> THREADS = new ConcurrentLinkedQueue<>();
-    private static final Set<Long> TASKS = ConcurrentHashMap.newKeySet();
+    private static final Map<Long, Integer> TASKS = new ConcurrentHashMap<>();
     /** The path of the log that is written now, or null. */
     private static String path;
     private static boolean isShared;
@@ -117,7 +117,12 @@ public final class TestLog {
     // ---- what LoggedThread reports
 
     static void runs(Thread thread) { THREADS.add(thread); }
-    static void given(Object task) { TASKS.add(Numbers.of(task)); }
+    static void given(Object task) { TASKS.merge(Numbers.of(task), 1, Integer::sum); }
     /** Whether the test gave the task, which a thread takes now. */
-    static boolean isTaken(Object task) { return TASKS.remove(Numbers.of(task)); }
+    static boolean isTaken(Object task) {
+        long number = Numbers.of(task);
+        boolean isGiven = TASKS.containsKey(number);
+        TASKS.computeIfPresent(number, (one, count) -> count == 1 ? null : count - 1);
+        return isGiven;
+    }
 }

@@ -13,6 +13,8 @@ public final class Numbers {
         volatile long number;
         /** What is known of a thread, a queue, a map or a semaphore; the field of an updater or a handle; what tells a class from others. */
         public volatile Object tied;
+        /** How often it was given to a pool, as a task. */
+        private int given;
 
         Entry(Object object, int hash, WeakTable of) { super(object, hash, of); }
     }
@@ -37,6 +39,20 @@ public final class Numbers {
 
     public static Object tied(Object object) { return entry(object).tied; }
     public static void tie(Object object, Object to) { entry(object).tied = to; }
+
+    /** Counts that the task is given to a pool, and returns how often it was so by now. */
+    public static int given(Object task) {
+        Entry entry = entry(task);
+        synchronized (entry) {
+            return ++entry.given;
+        }
+    }
+    public static int timesGiven(Object task) {
+        Entry entry = entry(task);
+        synchronized (entry) {
+            return entry.given;
+        }
+    }
 
     /** The object's number. */
     public static long of(Object object) {

@@ -1,5 +1,6 @@
 package aerodrome.weave;
 
+import java.util.List;
 import java.util.Locale;
 
 /** A method of the JDK that calls a hook. */
@@ -10,7 +11,9 @@ final class JdkHook {
     final String owner, method;
     private final String descriptor;
     final Where where;
-    final String hookOwner, hookName, given;
+    final String hookOwner, hookName;
+    /** What the hook gets, in this order. */
+    final List<String> given;
     /** Whether another JDK has it in the place of the one before. */
     final boolean isElse;
     boolean isFound;
@@ -27,7 +30,7 @@ final class JdkHook {
         dot = words[3].indexOf('.');
         hookOwner = "aerodrome/hooks/" + words[3].substring(0, dot);
         hookName = words[3].substring(dot + 1);
-        given = words.length > 4 ? words[4] : "";
+        given = List.of(words).subList(4, words.length);
     }
 
     boolean isAt(String owner, String method, String descriptor) {

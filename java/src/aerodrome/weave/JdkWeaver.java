@@ -85,15 +85,18 @@ public final class JdkWeaver implements ClassFileTransformer {
             for (JdkHook one : hooks) one.isFound |= one.where != JdkHook.Where.RUN;
         }
 
-        /** Calls the hooks that stand there. They are given `this`, an argument, or nothing. */
+        /** Calls the hooks that stand there. They are given `this`, arguments, or nothing. */
         private void call(JdkHook.Where where) {
             for (JdkHook one : hooks) {
-                if (one.where != where) continue;
-                if (!one.given.isEmpty()) mv.visitVarInsn(ALOAD, GIVEN.indexOf(one.given));
-                String type = one.hookOwner.endsWith("Threads") ? "Ljava/lang/Thread;" : "Ljava/lang/Object;";
-                String descriptor = one.given.isEmpty() ? "()V" : "(" + type + ")V";
-                mv.visitMethodInsn(INVOKESTATIC, one.hookOwner, one.hookName, descriptor, false);
+                if (one.where == where) call(one, "");
             }
+        }
+        /** The hook gets what is on the stack, too, by its types. */
+        private void call(JdkHook hook, String onStack) {
+            for (String one : hook.given) mv.visitVarInsn(ALOAD, GIVEN.indexOf(one));
+            String type = hook.hookOwner.endsWith("Threads") ? "Ljava/lang/Thread;" : "Ljava/lang/Object;";
+            String descriptor = "(" + onStack + type.repeat(hook.given.size()) + ")V";
+            mv.visitMethodInsn(INVOKESTATIC, hook.hookOwner, hook.hookName, descriptor, false);
         }
 
         @Override
@@ -119,7 +122,7 @@ public final class JdkWeaver implements ClassFileTransformer {
                 if (one.where != JdkHook.Where.RUN || !owner.equals("java/lang/Runnable") || !name.equals("run")) continue;
                 one.isFound = true;
                 mv.visitInsn(DUP);
-                mv.visitMethodInsn(INVOKESTATIC, one.hookOwner, one.hookName, "(Ljava/lang/Object;)V", false);
+                call(one, "Ljava/lang/Object;");
             }
             super.visitMethodInsn(opcode, owner, name, descriptor, isInterface);
         }
