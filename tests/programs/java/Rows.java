@@ -370,7 +370,7 @@ public class Rows {
         it.tryAcquire();
         it.release(); //: w(Semaphore@.permit#)
         it.release(); //: w(Semaphore@.permit#)
-        it.drainPermits(); //: r(Semaphore@.permit#) r(Semaphore@.permit#)
+        it.drainPermits(); //: r(Semaphore@.permit#)
         CountDownLatch latch = new CountDownLatch(2);
         latch.countDown(); //: w(CountDownLatch@.all#)
         latch.getCount(); //: r(CountDownLatch@.all#) w(CountDownLatch@.look#)
@@ -378,22 +378,22 @@ public class Rows {
         latch.await(); //: r(CountDownLatch@.all#)
         new CyclicBarrier(1).await(1, TimeUnit.SECONDS); //: w(CyclicBarrier@.all#) r(CyclicBarrier@.all#)
         Phaser phaser = new Phaser(1);
-        phaser.arriveAndAwaitAdvance(); //: w(Phaser@.all#) r(Phaser@.all#)
-        phaser.register(); //: w(Phaser@.all#)
-        phaser.arriveAndDeregister(); //: w(Phaser@.all#)
-        phaser.arrive(); //: w(Phaser@.all#)
-        phaser.awaitAdvance(1); //: r(Phaser@.all#)
-        phaser.awaitAdvanceInterruptibly(1); //: r(Phaser@.all#)
+        phaser.arriveAndAwaitAdvance(); //: w(Phaser@.phase0.all#) r(Phaser@.phase0.all#)
+        phaser.register();
+        phaser.arriveAndDeregister(); //: w(Phaser@.phase1.all#)
+        phaser.arrive(); //: w(Phaser@.phase1.all#)
+        phaser.awaitAdvance(1); //: r(Phaser@.phase1.all#)
+        phaser.awaitAdvanceInterruptibly(1); //: r(Phaser@.phase1.all#)
         Exchanger<Object> exchanger = new Exchanger<>();
         Thread other = new Thread(() -> {
             try {
-                exchanger.exchange("a"); //: w(Exchanger@.all#) r(Exchanger@.all#) r(Exchanger@.all#)
+                exchanger.exchange("a"); //: w(Exchanger@.item#) r(Exchanger@.item#)
             } catch (InterruptedException impossible) {
                 throw new AssertionError(impossible);
             }
         });
         other.start();
-        exchanger.exchange("b"); //: w(Exchanger@.all#) r(Exchanger@.all#) r(Exchanger@.all#)
+        exchanger.exchange("b"); //: w(Exchanger@.item#) r(Exchanger@.item#)
         other.join();
         Thread waits = new Waits();
         waits.start();

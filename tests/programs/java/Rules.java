@@ -272,17 +272,17 @@ public class Rules {
         many.acquire(Integer.MAX_VALUE);
         many.release(Integer.MAX_VALUE - 1); //: w(Semaphore@.permit#)
         many.release(); //: w(Semaphore@.permit#)
-        many.acquire(Integer.MAX_VALUE); //: r(Semaphore@.permit#) r(Semaphore@.permit#)
+        many.acquire(Integer.MAX_VALUE); //: r(Semaphore@.permit#)
         CountDownLatch latch = new CountDownLatch(1);
         latch.countDown(); //: w(CountDownLatch@.all#)
         latch.await(); //: r(CountDownLatch@.all#)
         new CyclicBarrier(1).await(); //: w(CyclicBarrier@.all#) r(CyclicBarrier@.all#)
         Phaser phaser = new Phaser(1);
-        phaser.arriveAndAwaitAdvance(); //: w(Phaser@.all#) r(Phaser@.all#)
-        phaser.arrive(); //: w(Phaser@.all#)
-        phaser.awaitAdvance(1); //: r(Phaser@.all#)
+        phaser.arriveAndAwaitAdvance(); //: w(Phaser@.phase0.all#) r(Phaser@.phase0.all#)
+        phaser.arrive(); //: w(Phaser@.phase1.all#)
+        phaser.awaitAdvance(1); //: r(Phaser@.phase1.all#)
         try {
-            new Exchanger<Object>().exchange(latch, 1, TimeUnit.NANOSECONDS); //: w(Exchanger@.all#)
+            new Exchanger<Object>().exchange(latch, 1, TimeUnit.NANOSECONDS); //: w(Exchanger@.item#)
         } catch (TimeoutException wanted) {
             LockSupport.unpark(Thread.currentThread()); //: w(Thread@.all#)
         }

@@ -5,9 +5,12 @@ import aerodrome.log.Log;
 import aerodrome.log.LoggedThread;
 import aerodrome.names.FieldName;
 import aerodrome.names.Numbers;
+import java.lang.invoke.VarHandle;
 import java.util.Iterator;
 import java.util.NoSuchElementException;
 import java.util.concurrent.ConcurrentHashMap;
+import java.util.concurrent.CountDownLatch;
+import java.util.concurrent.Phaser;
 import java.util.concurrent.locks.StampedLock;
 
 /** A call that is logged, from before it to behind it. */
@@ -21,6 +24,8 @@ public final class Call {
     private int times;
     /** Of a call of a queue. */
     private Queues.Before queue;
+    /** In which it arrived at a phaser. */
+    private int phase;
     private boolean wasWithin;
 
     /** @param index of the element that is accessed, or an offset; below 0: none */
@@ -39,7 +44,7 @@ public final class Call {
         switch (kind) {
             case READ: case STATE_READ: Log.hold(variable(Events.READ)); return;
             case WRITE: case STATE_WRITE: Log.hold(variable(Events.WRITE)); return;
-            case SWAP: case STATE_SWAP: case OPEN_TRY:
+            case SWAP: case EXCHANGE: case STATE_SWAP: case OPEN_TRY:
                 variable(kind == Kind.OPEN_TRY ? Events.READ : Events.WRITE);
                 Log.lock();
                 return;
@@ -47,6 +52,8 @@ public final class Call {
             case OPEN_LOOK: Parts.hold(me, receiver, Parts.Way.LOOKS, site); return;
             case OPEN_RESET: Parts.hold(me, receiver, Parts.Way.RESETS, site); return;
             case SIGNAL: case MEET: Parts.write(me, receiver, Parts.Way.ADDS, site); return;
+            case COUNT_DOWN: Parts.countDown(me, (CountDownLatch) receiver, site); return;
+            case ARRIVE: case ARRIVE_AND_WAIT: phase = Phases.arrive(me, (Phaser) receiver, site); return;
             case RESETTING: Parts.write(me, receiver, Parts.Way.RESETS, site); return;
             case READ_BEFORE: write(Events.READ); return;
             case STAMPED: beforeStamped(); return;
@@ -57,11 +64,13 @@ public final class Call {
             case AWAIT: times = Locks.giveBack(me, receiver, site); return;
             case RELEASE: Permits.of(me, receiver).release(me, receiver, permits(), site); return;
             case ACQUIRE: case ACQUIRE_IF_TRUE: case ACQUIRE_ALL: Permits.of(me, receiver); return;
-            case SEND: queue = Queues.of(receiver).put(me, receiver, argument, site); return;
+            case SEND: case SEND_FIRST: case HAND: case HAND_OVER:
+                queue = Queues.of(receiver).put(me, receiver, argument, kind, site);
+                return;
             case SEND_MANY: queue = Queues.of(receiver).putMany(me, receiver, site); return;
-            case RECEIVE: case PULL: case PURGE: queue = Queues.of(receiver).take(); return;
+            case RECEIVE: case RECEIVE_LAST: case PULL: case PULL_LAST: case PURGE: queue = Queues.of(receiver).take(); return;
             case DRAIN: queue = Queues.of(receiver).drain(argument); return;
-            case PEEK: case LOOK: case COUNT: queue = Queues.of(receiver).look(); return;
+            case PEEK: case PEEK_LAST: case LOOK: case COUNT: queue = Queues.of(receiver).look(); return;
             case UNPARK:
                 if (argument != null) Parts.write(me, argument, Parts.Way.ADDS, site);
                 return;
@@ -108,8 +117,13 @@ public final class Call {
             case READ: case WRITE: case STATE_READ: case STATE_WRITE: Log.unlock(); return;
             case OPEN_ADD: case OPEN_LOOK: case OPEN_RESET: Log.unlock(); return;
             case SIGNALLED: case MEET: Parts.write(me, receiver, Parts.Way.WAITS, site); return;
+            case SIGNALLED_IF_TRUE:
+                if (isTrue) Parts.write(me, receiver, Parts.Way.WAITS, site);
+                return;
+            case ARRIVE_AND_WAIT: Phases.passed(me, (Phaser) receiver, phase, site); return;
+            case AWAIT_PHASE: Phases.passed(me, (Phaser) receiver, index, site); return;
             case LOOKED: Parts.write(me, receiver, Parts.Way.LOOKS, site); return;
-            case SWAP: case STATE_SWAP: swapped(isTrue); return;
+            case SWAP: case EXCHANGE: case STATE_SWAP: swapped(isTrue); return;
             case OPEN_TRY: tried(isTrue); return;
             case READ_IF_TRUE:
                 if (isTrue) write(Events.READ);
@@ -135,11 +149,14 @@ public final class Call {
                 if (isTrue) Permits.of(me, receiver).acquire(me, receiver, permits(), site);
                 return;
             case SEND_MANY: Queues.of(receiver).wasPut(null, true, queue); return;
-            case SEND: Queues.of(receiver).wasPut(argument, isTrue, queue); return;
-            case RECEIVE: Queues.of(receiver).took(me, receiver, result, queue, site); return;
+            case SEND: case SEND_FIRST: case HAND: Queues.of(receiver).wasPut(argument, isTrue, queue); return;
+            case HAND_OVER: Queues.of(receiver).handedOver(me, receiver, argument, result, queue, site); return;
+            case RECEIVE: case RECEIVE_LAST: Queues.of(receiver).took(me, receiver, result, isLast(), queue, site); return;
             case DRAIN: Queues.of(receiver).drained(me, receiver, number, queue, site); return;
-            case PEEK: Queues.of(receiver).peeked(me, receiver, result, queue, site); return;
-            case PULL: Queues.of(receiver).pulled(me, receiver, isTrue ? argument : null, queue, site); return;
+            case PEEK: case PEEK_LAST: Queues.of(receiver).peeked(me, receiver, result, isLast(), queue, site); return;
+            case PULL: case PULL_LAST:
+                Queues.of(receiver).pulled(me, receiver, isTrue ? argument : null, isLast(), queue, site);
+                return;
             case PURGE: Queues.of(receiver).purged(me, receiver, queue, site); return;
             case LOOK: Queues.of(receiver).looked(me, receiver, isTrue, queue, site); return;
             case COUNT: Queues.of(receiver).counted(me, receiver, queue, site); return;
@@ -160,6 +177,9 @@ public final class Call {
         }
     }
 
+    /** Whether the receiver is a handle of a variable that has no object, so that what it gives as one is a copy. */
+    boolean isOfPrimitive() { return receiver instanceof VarHandle && ((VarHandle) receiver).varType().isPrimitive(); }
+
     private void tried(boolean isTrue) {
         try {
             if (isTrue) Log.append(me.line);
@@ -175,13 +195,24 @@ public final class Call {
         if (kind == Kind.AWAIT) Locks.takeBack(me, receiver, times, site);
     }
 
+    private boolean isLast() { return kind == Kind.RECEIVE_LAST || kind == Kind.PEEK_LAST || kind == Kind.PULL_LAST; }
+
     private void failedQueue(Throwable thrown) {
         Queues of = Queues.of(receiver);
         boolean isNone = thrown instanceof NoSuchElementException;
-        if (kind == Kind.SEND || kind == Kind.SEND_MANY) of.wasPut(kind == Kind.SEND ? argument : null, false, queue);
-        else if (kind == Kind.RECEIVE && isNone) of.took(me, receiver, null, queue, site);
-        else if (kind == Kind.PEEK && isNone) of.peeked(me, receiver, null, queue, site);
-        else if (kind != Kind.PEEK && kind != Kind.LOOK && kind != Kind.COUNT) of.ended();
+        switch (kind) {
+            case SEND: case SEND_FIRST: case HAND: case HAND_OVER: of.wasPut(argument, false, queue); return;
+            case SEND_MANY: of.wasPut(null, false, queue); return;
+            case RECEIVE: case RECEIVE_LAST:
+                if (isNone) of.took(me, receiver, null, isLast(), queue, site);
+                else of.ended();
+                return;
+            case PEEK: case PEEK_LAST:
+                if (isNone) of.peeked(me, receiver, null, isLast(), queue, site);
+                return;
+            case LOOK: case COUNT: return;
+            default: of.ended();
+        }
     }
 
     // ---- lines

@@ -51,6 +51,17 @@ public final class Calls {
     public static void after(Call call, long number) {
         if (call != null) call.after(null, number);
     }
+    /** Behind a call that was to write if it found what is wanted, and did find what it gave. */
+    public static void exchanged(Call call, Object wanted, Object found) {
+        if (call != null) call.after(null, wanted == found || call.isOfPrimitive() && wanted.equals(found) ? 1 : 0);
+    }
+    public static void exchanged(Call call, long wanted, long found) {
+        if (call != null) call.after(null, wanted == found ? 1 : 0);
+    }
+    /** Of floats too, each of which is a double: by their bits, as the call compares them. */
+    public static void exchanged(Call call, double wanted, double found) {
+        if (call != null) call.after(null, Double.doubleToRawLongBits(wanted) == Double.doubleToRawLongBits(found) ? 1 : 0);
+    }
     public static void failed(Call call, Throwable thrown) {
         if (call != null) call.failed(thrown);
     }

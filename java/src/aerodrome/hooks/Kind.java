@@ -7,6 +7,8 @@ public enum Kind {
     READ(Group.VARIABLE), WRITE(Group.VARIABLE),
     /** A write where the call gives true, else a read. */
     SWAP(Group.VARIABLE),
+    /** The same where the call gives what it was to find. */
+    EXCHANGE(Group.VARIABLE),
 
     OPEN_READ(Group.OPEN), OPEN_WRITE(Group.OPEN), OPEN_SWAP(Group.OPEN),
     /** Additions, whose order doesn't matter, looks at all of them, and what does both; Parts.java. */
@@ -23,6 +25,10 @@ public enum Kind {
     STAMPED(Group.ORDER),
     /** The threads that signal don't depend on each other: an addition before the call. Behind the call all of these are read. */
     SIGNAL(Group.ORDER), SIGNALLED(Group.ORDER),
+    /** Of a latch: an addition if that has anything to count still; and a wait that may give up, which gives false then. */
+    COUNT_DOWN(Group.ORDER), SIGNALLED_IF_TRUE(Group.ORDER),
+    /** Of a phaser, by phase: arrivals, waits for the end of a phase, and both. */
+    ARRIVE(Group.ORDER), AWAIT_PHASE(Group.ORDER), ARRIVE_AND_WAIT(Group.ORDER),
     /** Both. */
     MEET(Group.ORDER),
     /** A look at all additions, behind the call, and what adds and looks, before it: of what calls a function of the program. */
@@ -34,6 +40,10 @@ public enum Kind {
     ACQUIRE(Group.ORDER), ACQUIRE_IF_TRUE(Group.ORDER), ACQUIRE_ALL(Group.ORDER), RELEASE(Group.ORDER),
     /** The argument is put into a queue; the result is taken out of it, or goes to a list; or it stays there. */
     SEND(Group.ORDER), RECEIVE(Group.ORDER), DRAIN(Group.ORDER), PEEK(Group.ORDER),
+    /** The same at the other end of a queue than usual. */
+    SEND_FIRST(Group.ORDER), RECEIVE_LAST(Group.ORDER), PEEK_LAST(Group.ORDER),
+    /** It is put only if somebody waits for it; or it is given for another object. */
+    HAND(Group.ORDER), HAND_OVER(Group.ORDER),
     /** What is put is in a collection. */
     SEND_MANY(Group.ORDER),
     /** A thread, the argument, may go on. One that was parked reads itself. */
@@ -48,8 +58,8 @@ public enum Kind {
 
     /** Says whether the queue is empty, or what or how much is in it. */
     LOOK(Group.QUEUE), COUNT(Group.QUEUE),
-    /** Takes the argument out, wherever it stands, or many. */
-    PULL(Group.QUEUE), PURGE(Group.QUEUE),
+    /** Takes the argument out, wherever it stands first or last, or many. */
+    PULL(Group.QUEUE), PULL_LAST(Group.QUEUE), PURGE(Group.QUEUE),
 
     COLLECTION_READ(Group.COLLECTION), COLLECTION_WRITE(Group.COLLECTION),
     /** By an iterator. */
@@ -92,6 +102,7 @@ public enum Kind {
     private int number() { return this == NOTHING ? 0 : ordinal() + 1; }
     private static Kind numbered(int number) { return number == 0 ? NOTHING : ALL[number - 1]; }
 
+    public static boolean isExchange(int code) { return kind(code) == EXCHANGE; }
     public static boolean isOfCollection(int code) { return kind(code).isCollection(); }
     static Kind kind(int code) { return numbered(code & 255); }
     static Kind ofQueue(int code) { return numbered(code >>> 8 & 255); }

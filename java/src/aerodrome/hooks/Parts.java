@@ -6,6 +6,7 @@ import aerodrome.log.LoggedThread;
 import aerodrome.names.ClassNames;
 import aerodrome.names.Numbers;
 import aerodrome.names.Text;
+import java.util.concurrent.CountDownLatch;
 
 /**
  * What threads do to an object that doesn't depend on their order, such as additions, and looks at all of it. Who adds writes
@@ -18,6 +19,8 @@ final class Parts {
 
     /** The threads that have added, and those that have looked, as bits. The log's lock is held. */
     private long added, looked;
+    /** How often a latch may be counted down until it is open; below 0 where that isn't known yet. */
+    private long left = -1;
 
     private Parts() { }
 
@@ -86,5 +89,21 @@ final class Parts {
     static void write(LoggedThread me, Object object, Way way, int site) {
         hold(me, object, way, site);
         Log.unlock();
+    }
+
+    /** Nobody waits for what counts an open latch down, which changes nothing. */
+    static void countDown(LoggedThread me, CountDownLatch latch, int site) {
+        Parts parts = of(latch);
+        me.isQuiet = true;
+        try {
+            synchronized (parts) {
+                if (parts.left < 0) parts.left = latch.getCount();
+                if (parts.left == 0) return;
+                parts.left--;
+            }
+        } finally {
+            me.isQuiet = false;
+        }
+        write(me, latch, Way.ADDS, site);
     }
 }

@@ -5,38 +5,32 @@ import aerodrome.log.Log;
 import aerodrome.log.LoggedThread;
 import aerodrome.names.Numbers;
 import aerodrome.names.Text;
-import java.util.ArrayDeque;
+import java.util.HashMap;
+import java.util.Map;
+import java.util.TreeMap;
 import java.util.concurrent.Semaphore;
 
 /**
- * The permits of a semaphore. Each that is released has a number, and a release writes `permit.N` before the call, where N is the
- * last number that it gave. Who acquires permits reads, behind the call, those releases without which there would be too few: with
- * two permits to begin with, the third acquire needs the first release. So those who have a permit at the same time don't conflict,
- * and of one permit each user comes behind the one before. A release has one line, however many permits it gives.
+ * The permits of a semaphore. A release writes `permit.N` before the call, where N is the last permit that it gave. Who acquires
+ * permits reads, behind the call, each release without which there would be too few: one that gave more permits than are left. So
+ * who takes the last permit reads all releases that may have given it, and who leaves enough for others reads none. Releases that
+ * were read so are used up, but for as many permits as are left. Of one permit each user comes behind the one before, and those who
+ * have a permit at the same time don't conflict.
  */
 final class Permits {
     private static final byte[] PERMIT = Text.bytes(".permit");
 
-    /** Releases one after another that gave the same number of permits each. */
-    private static final class Run {
-        /** The permits before these, how many each release gave, and how many releases there are. */
-        final long before, each;
-        long releases;
+    /** How many there are by the log, and how many were released in all. */
+    private long left, released;
+    /**
+     * The releases that aren't used up, by thread, and then by how many of their permits may be left: the last one, which comes
+     * behind the thread's others.
+     */
+    private final Map<Integer, TreeMap<Long, Long>> open = new HashMap<>();
+    /** No release has more that may be left. */
+    private long most;
 
-        Run(long before, long each) {
-            this.before = before;
-            this.each = each;
-        }
-        long last() { return before + each * releases; }
-    }
-
-    /** How many there were before the first call. */
-    private final long first;
-    private long released, acquired;
-    /** Those that are needed still. */
-    private final ArrayDeque<Run> runs = new ArrayDeque<>();
-
-    private Permits(long first) { this.first = first; }
+    private Permits(long first) { left = first; }
 
     /** Before the semaphore's first call, and later. Its number of permits may be told by code of the program. */
     static Permits of(LoggedThread me, Object semaphore) {
@@ -57,27 +51,29 @@ final class Permits {
 
     synchronized void release(LoggedThread me, Object semaphore, long count, int site) {
         if (count <= 0) return;
-        Run run = runs.peekLast();
-        if (run == null || run.each != count) runs.add(run = new Run(released, count));
-        run.releases++;
+        left += count;
         released += count;
+        open.computeIfAbsent(me.number, one -> new TreeMap<>()).put(count, released);
+        most = Math.max(most, count);
         write(me, Events.WRITE, semaphore, released, site);
     }
 
-    /** What code that isn't logged releases has no number. */
+    /** What code that isn't logged has released, or acquired, isn't known: more can't be acquired than there were. */
     synchronized void acquire(LoggedThread me, Object semaphore, long count, int site) {
-        long from = Math.max(acquired - first, 0);
-        acquired += count;
-        long to = Math.min(acquired - first, released);
-        while (from < to) {
-            Run run = runs.element();
-            if (run.last() <= from) {
-                runs.remove();
-                continue;
-            }
-            from = run.before + ((from - run.before) / run.each + 1) * run.each;
-            write(me, Events.READ, semaphore, from, site);
+        if (count <= 0) return;
+        left = Math.max(left - count, 0);
+        if (left >= most) return;
+        for (TreeMap<Long, Long> releases : open.values()) {
+            Map<Long, Long> needed = releases.tailMap(left, false);
+            if (needed.isEmpty()) continue;
+            long last = 0;
+            for (long one : needed.values()) last = Math.max(last, one);
+            needed.clear();
+            if (left > 0) releases.merge(left, last, Math::max);
+            write(me, Events.READ, semaphore, last, site);
         }
+        open.values().removeIf(Map::isEmpty);
+        most = left;
     }
 
     private static void write(LoggedThread me, byte[] operation, Object semaphore, long number, int site) {

@@ -78,8 +78,38 @@ public final class Tasks {
         if (me != null) me.takes(task);
         write(Events.READ, TASK, task);
     }
+    // ---- results
+
     public static void completes(Object task) { write(Events.WRITE, DONE, task); }
     public static void sees(Object task) { write(Events.READ, DONE, task); }
+
+    /** Before the step that completes a future, unless it is complete already: that is made under the log's lock. */
+    public static void completing(Object future) {
+        LoggedThread me = LoggedThread.logging();
+        if (me == null) return;
+        putLine(me, Events.WRITE, DONE, future, 1);
+        me.isCompleting = true;
+        Log.lock();
+    }
+    /** One that comes too late only reads. */
+    public static void completed(boolean isDone) {
+        LoggedThread me = LoggedThread.logging();
+        if (me == null || !me.isCompleting) return;
+        me.isCompleting = false;
+        try {
+            if (!isDone) me.line.setOperation('r');
+            Log.append(me.line);
+        } finally {
+            Log.unlock();
+        }
+    }
+
+    /** Before a look at whether a future is complete. */
+    public static void looks(Object future) {
+        LoggedThread me = LoggedThread.logging();
+        if (me != null) Log.hold(putLine(me, Events.READ, DONE, future, 1));
+    }
+    public static void looked() { Log.unlock(); }
 
     // ---- lines
 
@@ -88,9 +118,12 @@ public final class Tasks {
         if (me != null) write(me, operation, kind, task, 1);
     }
     private static void write(LoggedThread me, byte[] operation, byte[] kind, Object task, int time) {
+        Log.write(putLine(me, operation, kind, task, time));
+    }
+    private static Line putLine(LoggedThread me, byte[] operation, byte[] kind, Object task, int time) {
         Line line = Events.putObject(me.line.begin().put(operation).put(kind), task);
         if (time > 1) line.put('.').put(time);
         Events.end(line, Site.NOWHERE);
-        Log.write(line);
+        return line;
     }
 }

@@ -21,6 +21,8 @@ public final class LoggedThread {
     public int initializing;
     /** Whether it is in code of the program that a hook calls. */
     public boolean isQuiet;
+    /** Whether it is about to complete a future, by a line that is made already. */
+    public boolean isCompleting;
     /** How often it held the monitor that Thread.join has given back. */
     public int gaveBack;
     /** How many places it has come to where it might have waited, and what the next wait follows from; hooks/Stir.java. */

@@ -5,20 +5,21 @@ import java.util.Locale;
 
 /** A method of the JDK that calls a hook. */
 final class JdkHook {
-    enum Where { ENTRY, EXIT, ALWAYS, RUN, RESULT }
+    enum Where { ENTRY, EXIT, ALWAYS, RUN, RESULT, SWAP, LOOK }
 
     /** Names of classes are a/b/C. */
     final String owner, method;
     private final String descriptor;
     final Where where;
-    final String hookOwner, hookName;
+    /** The second name is that of the hook behind what the first one stands before, if there is one. */
+    final String hookOwner, hookName, hookBehind;
     /** What the hook gets, in this order. */
     final List<String> given;
     /** Whether another JDK has it in the place of the one before. */
     final boolean isElse;
     boolean isFound;
 
-    /** A line of the table: hook CLASS.METHOD[DESCRIPTOR] WHERE CLASS.HOOK [WHAT IT IS GIVEN]. */
+    /** A line of the table: hook CLASS.METHOD[DESCRIPTOR] WHERE CLASS.HOOK[/HOOK BEHIND] [WHAT IT IS GIVEN].. */
     JdkHook(String[] words) {
         isElse = words[0].equals("else");
         int end = words[1].indexOf('(') < 0 ? words[1].length() : words[1].indexOf('(');
@@ -29,9 +30,14 @@ final class JdkHook {
         where = Where.valueOf(words[2].toUpperCase(Locale.ROOT));
         dot = words[3].indexOf('.');
         hookOwner = "aerodrome/hooks/" + words[3].substring(0, dot);
-        hookName = words[3].substring(dot + 1);
+        String[] names = words[3].substring(dot + 1).split("/");
+        hookName = names[0];
+        hookBehind = names[names.length - 1];
         given = List.of(words).subList(4, words.length);
     }
+
+    /** Whether it stands somewhere within the method, if there is a place for it. */
+    boolean isWithin() { return where == Where.RUN || where == Where.SWAP || where == Where.LOOK; }
 
     boolean isAt(String owner, String method, String descriptor) {
         return this.owner.equals(owner) && this.method.equals(method)

@@ -82,7 +82,7 @@ public final class JdkWeaver implements ClassFileTransformer {
             super(ASM9, to, access, method, descriptor);
             this.hooks = hooks;
             result = Type.getReturnType(descriptor).getDescriptor();
-            for (JdkHook one : hooks) one.isFound |= one.where != JdkHook.Where.RUN;
+            for (JdkHook one : hooks) one.isFound |= !one.isWithin();
         }
 
         /** Calls the hooks that stand there. They are given `this`, arguments, or nothing. */
@@ -124,7 +124,29 @@ public final class JdkWeaver implements ClassFileTransformer {
                 mv.visitInsn(DUP);
                 call(one, "Ljava/lang/Object;");
             }
+            boolean isSwap = owner.equals("java/lang/invoke/VarHandle") && name.equals("compareAndSet");
+            if (isSwap) callFound(JdkHook.Where.SWAP);
             super.visitMethodInsn(opcode, owner, name, descriptor, isInterface);
+            for (JdkHook one : hooks) {
+                if (!isSwap || one.where != JdkHook.Where.SWAP) continue;
+                mv.visitInsn(DUP);
+                mv.visitMethodInsn(INVOKESTATIC, one.hookOwner, one.hookBehind, "(Z)V", false);
+            }
+        }
+        private void callFound(JdkHook.Where where) {
+            for (JdkHook one : hooks) one.isFound |= one.where == where;
+            call(where);
+        }
+
+        /** The state of what may be complete. */
+        @Override
+        public void visitFieldInsn(int opcode, String owner, String name, String descriptor) {
+            boolean isLook = opcode == GETFIELD && name.equals("result");
+            if (isLook) callFound(JdkHook.Where.LOOK);
+            super.visitFieldInsn(opcode, owner, name, descriptor);
+            for (JdkHook one : hooks)
+                if (isLook && one.where == JdkHook.Where.LOOK)
+                    mv.visitMethodInsn(INVOKESTATIC, one.hookOwner, one.hookBehind, "()V", false);
         }
 
         @Override

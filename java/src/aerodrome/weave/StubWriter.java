@@ -217,11 +217,40 @@ final class StubWriter {
 
     private void after() {
         code.visitVarInsn(ALOAD, call);
+        if (Kind.isExchange(stub.code) && gives != Type.VOID_TYPE) {
+            afterExchange();
+            return;
+        }
         boolean isObject = gives.getSort() >= Type.ARRAY, isInt = gives == Type.INT_TYPE;
         String given = isObject ? OBJECT : gives == Type.BOOLEAN_TYPE ? "Z" : isInt || gives == Type.LONG_TYPE ? "J" : "";
         if (!given.isEmpty()) code.visitVarInsn(gives.getOpcode(ILOAD), result);
         if (isInt) code.visitInsn(I2L);
         code.visitMethodInsn(INVOKESTATIC, CALLS, "after", "(L" + CALL + ";" + given + ")V", false);
+    }
+
+    /** What the call was to find, which is its last argument but one, and what it found: both as the wider of their types. */
+    private void afterExchange() {
+        int place = arguments.length - 2, at = stub.firstArgument();
+        for (int one = 0; one < place; one++) at += arguments[one].getSize();
+        Type wanted = arguments[place], wide = wide(gives);
+        if (wanted.getSort() >= Type.ARRAY != gives.getSort() >= Type.ARRAY) {
+            code.visitMethodInsn(INVOKESTATIC, CALLS, "after", "(L" + CALL + ";)V", false);
+            return;
+        }
+        load(wanted, at, wide);
+        load(gives, result, wide);
+        code.visitMethodInsn(INVOKESTATIC, CALLS, "exchanged", "(L" + CALL + ";" + wide + wide + ")V", false);
+    }
+    private static Type wide(Type type) {
+        if (type.getSort() >= Type.ARRAY) return Type.getType(OBJECT);
+        return type == Type.FLOAT_TYPE || type == Type.DOUBLE_TYPE ? Type.DOUBLE_TYPE : Type.LONG_TYPE;
+    }
+    private void load(Type type, int variable, Type as) {
+        code.visitVarInsn(type.getOpcode(ILOAD), variable);
+        boolean isDouble = as == Type.DOUBLE_TYPE, isInt = type.getSort() <= Type.INT;
+        if (isInt && as.getSort() != Type.OBJECT) code.visitInsn(isDouble ? I2D : I2L);
+        else if (isDouble && type == Type.LONG_TYPE) code.visitInsn(L2D);
+        else if (isDouble && type == Type.FLOAT_TYPE) code.visitInsn(F2D);
     }
 
     /** The stub's arguments, with the call behind them or without, and on the stack what was thrown or nothing. */
