@@ -149,8 +149,8 @@ public final class Options {
 
     /** What isn't the program's. A loader that asks nobody but for java.* makes copies of the agent's own classes, too. */
     private static final String[] OTHERS = {
-        "java/", "javax/", "jdk/", "sun/", "aerodrome/Agent", "aerodrome/Options", "aerodrome/hooks/", "aerodrome/junit/",
-        "aerodrome/log/", "aerodrome/names/", "aerodrome/weave/", "aerodrome/asm/"};
+        "java/", "javax/", "jdk/", "sun/", "org/jacoco/", "aerodrome/Agent", "aerodrome/Options", "aerodrome/hooks/",
+        "aerodrome/junit/", "aerodrome/log/", "aerodrome/names/", "aerodrome/weave/", "aerodrome/asm/"};
     /** What runs tests, some of it between a test's begin and its method. */
     private static final String[] RUNNERS = {"org/junit/", "org/opentest4j/", "org/apache/maven/surefire/", "org/gradle/"};
 

@@ -14,6 +14,11 @@ public final class Hidden {
     /** What the names of added members begin with. */
     public static final String PREFIX = "aero$";
 
+    private static final String WRITER = ".bytebuddy.";
+    /** How far up the stack it stands. */
+    private static final int CALLERS = 8;
+    private static final StackWalker WALKER = StackWalker.getInstance();
+
     private Hidden() { }
 
     public static Field[] fields(Field[] all) {
@@ -30,8 +35,15 @@ public final class Hidden {
 
     public static Class<?>[] interfaces(Class<?>[] all) {
         int last = all.length - 1;
-        for (int one = last; one >= 0; one--) if (all[one] == Numbered.class) return without(all, one);
+        for (int one = last; one >= 0; one--) if (all[one] == Numbered.class) return isForWriter() ? all : without(all, one);
         return all;
+    }
+    /**
+     * Byte Buddy, by which Mockito and other agents change classes that are loaded, gives a class the interfaces that reflection
+     * shows, and the system refuses one that lacks an interface.
+     */
+    private static boolean isForWriter() {
+        return WALKER.walk(frames -> frames.limit(CALLERS).anyMatch(one -> one.getClassName().contains(WRITER)));
     }
     private static Class<?>[] without(Class<?>[] all, int place) {
         Class<?>[] left = new Class<?>[all.length - 1];

@@ -243,6 +243,16 @@ public final class Log {
         }
     }
 
+    /** What was logged is written out, and nothing more is logged. */
+    static void end(String why) {
+        lock();
+        if (on) {
+            flush();
+            stop(why);
+        }
+        unlock();
+    }
+
     /** The log of a test ends, or all logging. */
     private static void stop(String why) {
         if (Options.isOfTests && !isGivenUp) isCut = true;

@@ -1,5 +1,6 @@
 package aerodrome.log;
 
+import aerodrome.Options;
 import aerodrome.names.Numbers;
 import java.util.Arrays;
 import java.util.concurrent.atomic.AtomicInteger;
@@ -11,7 +12,8 @@ public final class LoggedThread {
     private static final ThreadLocal<LoggedThread> MINE = new ThreadLocal<LoggedThread>() {
         @Override protected LoggedThread initialValue() { return of(Thread.currentThread()); }
     };
-    private static final int GROUPS = 64;
+    /** GROUPS: see group(); MOST: threads that the checker takes. */
+    private static final int GROUPS = 64, MOST = 65_536;
 
     /** From 1; no two threads ever have the same. */
     public final int number = LAST.incrementAndGet();
@@ -38,7 +40,10 @@ public final class LoggedThread {
     /** In the place of a test's number: the thread belongs to another test. */
     private static final int APART = -1;
 
-    private LoggedThread(Thread thread) { name = ThreadName.of(number, thread); }
+    private LoggedThread(Thread thread) {
+        name = ThreadName.of(number, thread);
+        if (number > MOST && !Options.isOfTests) Log.end("more than " + MOST + " threads");
+    }
 
     public static LoggedThread current() { return MINE.get(); }
 

@@ -36,11 +36,36 @@ final class Stubs {
     }
     private final List<Reference> references = new ArrayList<>();
 
-    Stubs(WovenClass of, ClassVisitor to, Table table) {
+    /** What a class has got: one that is redefined must have the same methods, no more and no fewer. */
+    static final class Shape {
+        private final List<Stub> stubs;
+        private final List<Reference> references;
+
+        private Shape(List<Stub> stubs, List<Reference> references) {
+            this.stubs = stubs;
+            this.references = references;
+        }
+    }
+    private final boolean isFixed;
+    /** Of a shape: the references that nothing in the class has yet. */
+    private final List<Reference> free = new ArrayList<>();
+    /** Whether a call has no stub, as the shape has none. */
+    private boolean isShort;
+
+    /** @param shape that of the class, if it is redefined, else null */
+    Stubs(WovenClass of, ClassVisitor to, Table table, Shape shape) {
         this.of = of;
         this.to = to;
         this.table = table;
+        isFixed = shape != null;
+        if (!isFixed) return;
+        all.addAll(shape.stubs);
+        for (Stub one : all) byCall.put(one.call.key(), one);
+        free.addAll(shape.references);
     }
+
+    Shape shape() { return new Shape(all, references); }
+    boolean isShort() { return isShort; }
 
     /** The stub round such a call, or null where it isn't logged. */
     Stub round(int opcode, String owner, String name, String descriptor, boolean isInterface) {
@@ -49,7 +74,10 @@ final class Stubs {
         if (code == 0 && !Naming.isMade(owner, name)) return null;
         Invocation call = new Invocation(opcode, owner, name, descriptor, isInterface);
         Stub known = byCall.get(call.key());
-        if (known != null) return known;
+        if (known != null || isFixed) {
+            isShort |= known == null;
+            return known;
+        }
         boolean isHandle = code != 0 && owner.equals("java/lang/invoke/VarHandle");
         int form = isHandle ? Handles.form(code, name) : -1;
         Stub made = new Stub(call, Hidden.PREFIX + all.size(), of.name, code, form);
@@ -58,11 +86,22 @@ final class Stubs {
         return made;
     }
 
-    /** What a reference to the stub's method is led to, from the site. */
+    /** What a reference to the stub's method is led to, from the site, or null where the shape has nothing for it. */
     Handle from(Stub stub, int site) {
-        Reference made = new Reference(stub, Hidden.PREFIX + "from" + references.size(), site);
+        Reference made = isFixed ? taken(stub, site) : new Reference(stub, Hidden.PREFIX + "from" + references.size(), site);
+        if (made == null) return null;
         references.add(made);
         return new Handle(H_INVOKESTATIC, of.name, made.name, made.descriptor, of.isInterface);
+    }
+
+    private Reference taken(Stub stub, int site) {
+        for (Reference one : free) {
+            if (one.stub != stub) continue;
+            free.remove(one);
+            return new Reference(stub, one.name, site);
+        }
+        isShort = true;
+        return null;
     }
 
     /** Adds them to the class. */
@@ -73,6 +112,7 @@ final class Stubs {
             else new StubWriter(code, one, of.version >= WovenClass.FRAMES).write();
             end(code);
         }
+        references.addAll(free);
         for (Reference one : references) write(one);
     }
     private MethodVisitor begin(String name, String descriptor) {

@@ -5,9 +5,11 @@ import aerodrome.log.Log;
 import java.lang.instrument.ClassFileTransformer;
 import java.lang.instrument.Instrumentation;
 import java.security.ProtectionDomain;
+import java.util.HashMap;
 import java.util.HashSet;
 import java.util.Map;
 import java.util.Set;
+import java.util.WeakHashMap;
 import org.objectweb.asm.ClassReader;
 import org.objectweb.asm.ClassWriter;
 import org.objectweb.asm.MethodTooLargeException;
@@ -22,6 +24,8 @@ public final class Weaver implements ClassFileTransformer {
 
     private final Instrumentation with;
     private final Table table;
+    /** What the classes of each loader have got, which a class that is redefined has to get again. */
+    private final Map<ClassLoader, Map<String, Stubs.Shape>> shapes = new WeakHashMap<>();
     private final Module own = Weaver.class.getModule();
 
     public Weaver(Instrumentation with, Table table) {
@@ -39,28 +43,44 @@ public final class Weaver implements ClassFileTransformer {
 
     @Override
     public byte[] transform(ClassLoader loader, String name, Class<?> redefined, ProtectionDomain domain, byte[] bytes) {
-        if (redefined != null || loader == null || loader == PLATFORM || name == null || !Options.covers(name)) return null;
+        if (loader == null || loader == PLATFORM || name == null || !Options.covers(name)) return null;
         // Accessors that reflection makes.
         if (loader.getClass().getName().startsWith("jdk.internal.reflect")) return null;
         try {
-            return weave(loader, name, bytes);
+            Stubs.Shape shape = redefined == null ? null : shape(loader, name);
+            return redefined != null && shape == null ? null : weave(loader, name, bytes, shape);
         } catch (Throwable wrong) {
             Log.say(name.replace('/', '.') + " isn't logged: " + wrong);
             return null;
         }
     }
 
+    private Stubs.Shape shape(ClassLoader loader, String name) {
+        synchronized (shapes) {
+            return shapes.getOrDefault(loader, Map.of()).get(name);
+        }
+    }
+    private void note(ClassLoader loader, String name, Stubs.Shape shape) {
+        synchronized (shapes) {
+            shapes.computeIfAbsent(loader, one -> new HashMap<>()).put(name, shape);
+        }
+    }
+
     /** A method that would be too long has its accesses left out. */
-    private byte[] weave(ClassLoader loader, String name, byte[] bytes) {
+    private byte[] weave(ClassLoader loader, String name, byte[] bytes, Stubs.Shape shape) {
         Set<String> light = new HashSet<>();
         ClassReader reader = ClassFile.reader(bytes);
         Outline outline = new Outline();
         reader.accept(outline, ClassReader.SKIP_FRAMES);
         for (;;) {
             ClassWriter writer = new ClassWriter(ClassWriter.COMPUTE_MAXS);
-            reader.accept(new WovenClass(writer, loader, table, light, outline), ClassReader.EXPAND_FRAMES);
+            WovenClass woven = new WovenClass(writer, loader, table, light, outline, shape);
+            reader.accept(woven, ClassReader.EXPAND_FRAMES);
             try {
-                return ClassFile.made(writer.toByteArray(), bytes);
+                byte[] made = ClassFile.made(writer.toByteArray(), bytes);
+                if (shape == null) note(loader, name, woven.stubs.shape());
+                if (woven.stubs.isShort()) Log.say(name.replace('/', '.') + " was redefined: calls that are new in it aren't logged");
+                return made;
             } catch (MethodTooLargeException wrong) {
                 if (!light.add(wrong.getMethodName() + wrong.getDescriptor())) throw wrong;
                 Log.say(name.replace('/', '.') + "." + wrong.getMethodName() + " is too long: its accesses aren't logged");

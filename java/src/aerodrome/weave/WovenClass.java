@@ -38,13 +38,14 @@ final class WovenClass extends ClassVisitor {
     /**
      * @param light the methods whose accesses are left out
      * @param outline what is to be known of the class before
+     * @param shape what the class has got already, if it is redefined, else null
      */
-    WovenClass(ClassVisitor to, ClassLoader loader, Table table, Set<String> light, Outline outline) {
+    WovenClass(ClassVisitor to, ClassLoader loader, Table table, Set<String> light, Outline outline, Stubs.Shape shape) {
         super(ASM9, to);
         this.loader = new WeakReference<>(loader);
         this.light = light;
         this.outline = outline;
-        stubs = new Stubs(this, to, table);
+        stubs = new Stubs(this, to, table, shape);
     }
 
     @Override
@@ -79,7 +80,7 @@ final class WovenClass extends ClassVisitor {
     @Override
     public MethodVisitor visitMethod(int access, String method, String descriptor, String signature, String[] thrown) {
         MethodVisitor to = super.visitMethod(access, method, descriptor, signature, thrown);
-        if (to == null || (access & (ACC_ABSTRACT | ACC_NATIVE)) != 0) return to;
+        if (to == null || (access & (ACC_ABSTRACT | ACC_NATIVE)) != 0 || Coverage.isOwn(method)) return to;
         MethodVisitor woven = new WovenMethod(to, access, method, descriptor, this);
         return version < FRAMES ? new JSRInlinerAdapter(woven, access, method, descriptor, signature, thrown) : woven;
     }

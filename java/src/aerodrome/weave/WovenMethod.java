@@ -23,6 +23,7 @@ final class WovenMethod extends AdviceAdapter {
     private final String label;
     private final boolean isLight, isBlock, isSynchronized, isStatic, isConstructor, isInitializer;
     private final Label start = new Label();
+    private final Coverage coverage = new Coverage();
     private final boolean isCatching;
     /** The handlers of errors, and whether one has begun whose first instruction hasn't come. */
     private final Set<Label> handlers = new HashSet<>();
@@ -150,6 +151,8 @@ final class WovenMethod extends AdviceAdapter {
     @Override
     public void visitVarInsn(int opcode, int variable) {
         caught();
+        if (opcode == ASTORE) coverage.stored(variable);
+        if (opcode == ALOAD) coverage.loaded(variable);
         super.visitVarInsn(opcode, variable);
     }
     @Override
@@ -212,7 +215,7 @@ final class WovenMethod extends AdviceAdapter {
     @Override
     public void visitInsn(int opcode) {
         caught();
-        boolean logsArrays = !isLight && Options.arrays != Options.Grain.OFF;
+        boolean logsArrays = !isLight && Options.arrays != Options.Grain.OFF && !(opcode == BASTORE && coverage.isStore());
         if (logsArrays && opcode >= IALOAD && opcode <= SALOAD) {
             mv.visitInsn(DUP2);
             element("readElement", opcode);
@@ -246,11 +249,18 @@ final class WovenMethod extends AdviceAdapter {
         call(BLOCKS, hook, "(" + OBJECT + "I)V");
     }
 
+    @Override
+    public void visitLdcInsn(Object value) {
+        coverage.constant(value);
+        super.visitLdcInsn(value);
+    }
+
     // ---- calls
 
     @Override
     public void visitMethodInsn(int opcode, String owner, String name, String descriptor, boolean isInterface) {
         caught();
+        coverage.called(name);
         if (opcode == INVOKESTATIC && owner.equals("java/lang/System") && name.equals("arraycopy")) {
             replace(ACCESSES, "copy", descriptor.replace(")", "I)"));
             return;
@@ -287,9 +297,10 @@ final class WovenMethod extends AdviceAdapter {
             Handle to = (Handle) arguments[1];
             int opcode = to.getTag() == H_INVOKEVIRTUAL ? INVOKEVIRTUAL : to.getTag() == H_INVOKEINTERFACE ? INVOKEINTERFACE : 0;
             Stub stub = opcode == 0 ? null : of.stubs.round(opcode, to.getOwner(), to.getName(), to.getDesc(), to.isInterface());
-            if (stub != null) {
+            Handle from = stub == null ? null : of.stubs.from(stub, of.site(line));
+            if (from != null) {
                 led = arguments.clone();
-                led[1] = of.stubs.from(stub, of.site(line));
+                led[1] = from;
             }
         }
         super.visitInvokeDynamicInsn(name, descriptor, maker, led);
