@@ -204,6 +204,7 @@ public final class Log {
         on = false;
         unlock();
         if (!isFirst) return;
+        Counted.sayTheRest();
         boolean isEmpty = isWhole && !Options.isOfTests && written == 0;
         if (isWhole) tellOfLittle();
         try {

@@ -32,7 +32,7 @@ public final class ClassFile {
         return made;
     }
 
-    private static int version(byte[] bytes) { return (bytes[VERSION + 2] & 255) << 8 | bytes[VERSION + 3] & 255; }
+    static int version(byte[] bytes) { return (bytes[VERSION + 2] & 255) << 8 | bytes[VERSION + 3] & 255; }
 
     /** The version of the JDK's own class files where they can't be read, else 0. */
     public static int unreadable() throws IOException {

@@ -15,13 +15,14 @@ final class JdkHook {
     final String hookOwner, hookName, hookBehind;
     /** What the hook gets, in this order. */
     final List<String> given;
-    /** Whether another JDK has it in the place of the one before. */
-    final boolean isElse;
+    /** Whether another JDK has it in the place of the one before, or some JDKs haven't it. */
+    final boolean isElse, isAlso;
     boolean isFound;
 
     /** A line of the table: hook CLASS.METHOD[DESCRIPTOR] WHERE CLASS.HOOK[/HOOK BEHIND] [WHAT IT IS GIVEN].. */
     JdkHook(String[] words) {
         isElse = words[0].equals("else");
+        isAlso = words[0].equals("also");
         int end = words[1].indexOf('(') < 0 ? words[1].length() : words[1].indexOf('(');
         int dot = words[1].lastIndexOf('.', end);
         owner = words[1].substring(0, dot).replace('.', '/');

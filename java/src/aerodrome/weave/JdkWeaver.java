@@ -28,14 +28,19 @@ public final class JdkWeaver implements ClassFileTransformer {
 
     public Class<?>[] classes() throws ClassNotFoundException {
         Set<Class<?>> classes = new LinkedHashSet<>();
-        for (JdkHook one : hooks) classes.add(Class.forName(one.owner.replace('/', '.'), false, null));
+        for (JdkHook one : hooks)
+            try {
+                classes.add(Class.forName(one.owner.replace('/', '.'), false, null));
+            } catch (ClassNotFoundException isNot) {
+                if (!one.isAlso) throw isNot;
+            }
         return classes.toArray(new Class<?>[0]);
     }
 
     public void sayWhatIsMissing() {
         for (int at = 0; at < hooks.size(); at++) {
             JdkHook one = hooks.get(at), next = at + 1 < hooks.size() ? hooks.get(at + 1) : one;
-            if (!one.isFound && !one.isElse && !(next.isElse && next.isFound))
+            if (!one.isFound && !one.isElse && !one.isAlso && !(next.isElse && next.isFound))
                 Log.say("this JDK has no " + one.owner.replace('/', '.') + "." + one.method + ": what it does isn't logged");
         }
     }

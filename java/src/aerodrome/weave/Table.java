@@ -81,7 +81,7 @@ public final class Table {
 
         void take(String[] words) {
             switch (words[0]) {
-                case "hook": case "else": hooks.add(new JdkHook(words)); return;
+                case "hook": case "else": case "also": hooks.add(new JdkHook(words)); return;
                 case "in": prefix = words[1].equals(ANY) ? "" : words[1].replace('.', '/') + "/"; return;
                 case "of":
                     if (hasRow) classes = new ArrayList<>();

@@ -1,6 +1,7 @@
 package aerodrome.weave;
 
 import aerodrome.Options;
+import aerodrome.log.Counted;
 import aerodrome.log.Log;
 import java.lang.instrument.ClassFileTransformer;
 import java.lang.instrument.Instrumentation;
@@ -69,9 +70,15 @@ public final class Weaver implements ClassFileTransformer {
     /** A method that would be too long has its accesses left out. */
     private byte[] weave(ClassLoader loader, String name, byte[] bytes, Stubs.Shape shape) {
         Set<String> light = new HashSet<>();
-        ClassReader reader = ClassFile.reader(bytes);
+        ClassReader reader;
         Outline outline = new Outline();
-        reader.accept(outline, ClassReader.SKIP_FRAMES);
+        try {
+            reader = ClassFile.reader(bytes);
+            reader.accept(outline, ClassReader.SKIP_FRAMES);
+        } catch (RuntimeException wrong) {
+            Counted.isNotLogged(name.replace('/', '.'), "ASM can't read this class file version (" + ClassFile.version(bytes) + ")");
+            return null;
+        }
         for (;;) {
             ClassWriter writer = new ClassWriter(ClassWriter.COMPUTE_MAXS);
             WovenClass woven = new WovenClass(writer, loader, table, light, outline, shape);
