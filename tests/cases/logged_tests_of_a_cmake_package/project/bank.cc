@@ -37,6 +37,8 @@ struct Account {
 
 static conc::Account account;
 
+int unused_by_all(int number) { return number + 1; }
+
 int main(int words, char **word) {
     const std::string asked = words > 1 ? word[1] : "";
     if (asked == "--gtest_list_tests") {
