@@ -5,7 +5,7 @@
 #: make java                  builds the agent that logs Java programs; needs a JDK, ASM and jarjar (README.md names Debian's packages)
 #: make library               proves and builds the library for C; needs rt and ar
 #: make install PREFIX=DIR    installs the program, scripts, logger, manual pages, pages for users and examples into DIR (default: /usr/local)
-#: make uninstall PREFIX=DIR  removes the files that make install put there, and nothing else
+#: make uninstall PREFIX=DIR  removes the files that make install put there, and the folders that it made, if they are empty
 #: make dist                  makes an archive for machines without the kit, out/dist/aerodrome-VERSION-linux-x86_64.tar.gz
 #: make deb                   makes packages for Debian in out/dist; both need rt, and a JDK (WITHOUT=java leaves the agent out)
 #: make edits                 tries every wrong body that the prover must refuse, and its harmless twin; needs rt
