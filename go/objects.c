@@ -4,9 +4,9 @@
  * long has no more names than it needs at once, and the checker takes 2^26. */
 #include "log.h"
 
-/* Where Go's heap lies on linux/amd64 (runtime/malloc.go: mallocinit). */
+/* Where the heap of a program for the race detector lies on linux/amd64, all of it (runtime/malloc.go: mallocinit). */
 #define HEAP 0xc000000000ull
-#define HEAP_BYTES (1ull << 36)
+#define HEAP_BYTES (0xe000000000ull - HEAP)
 enum { MOST_OBJECTS = 1 << 28, MOST_IN_NAME = 200 };
 
 static uint32_t *units;              /* for each eight bytes of the heap the place of their object in `objects`, or 0 */
