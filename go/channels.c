@@ -11,10 +11,10 @@
 struct channel {
     word count, slots;
     void *buffer;
-    uint16_t element_bytes;
-    uint32_t is_closed;
 };
-_Static_assert(offsetof(struct channel, is_closed) == 28, "as runtime.hchan");
+static bool is_closed(const struct channel *channel) {
+    return *(const uint32_t *)((const char *)channel + aero_closed_of_channel) != 0;
+}
 
 /* Whether the goroutine sends. runtime.send and runtime.recv meet one that waits, and call the hook for both: first for who runs. In
  * select the line tells; where that isn't known, a full buffer is received from. */
@@ -82,7 +82,7 @@ static void by_channel(struct goroutine *t, const struct ordered *it) {
         return;
     }
     if (it->how == RELEASE) return;
-    if (!channel->slots || (channel->is_closed && !channel->count)) {
+    if (!channel->slots || (!channel->count && is_closed(channel))) {
         found_closed(t, it);
         return;
     }

@@ -188,6 +188,8 @@ bool aero_wants_blocks(void);                  /* there may be some */
 extern const char aero_packages[];             /* those of the standard library, each between two newlines */
 extern const int aero_select_send;             /* the line of select.go that sends into a buffer */
 extern const int aero_defers_of_g;             /* where a g has its latest _defer; 0: not known */
+extern const int aero_closed_of_channel;       /* where a channel has whether it is closed */
+extern const int aero_writer_sem, aero_reader_sem;    /* where a RWMutex has these, by which it is known to the hooks */
 
 /* code.c */
 void aero_code_start(void (*callback)(word, void *), const word *g);

@@ -99,17 +99,14 @@ static void mutex(struct goroutine *t, word at, bool locks, const struct code *p
     s->owner_number = t->number;
 }
 
-/* RWMutex begins with w, a Mutex of 8 bytes, writerSem and readerSem. RLock acquires readerSem, and RUnlock releases writerSem. Lock
- * acquires both, and Unlock releases readerSem. */
-enum { WRITER_SEM = 8, READER_SEM = 12 };
-
+/* RLock acquires readerSem, and RUnlock releases writerSem. Lock acquires both, and Unlock releases readerSem. */
 static void reader(struct goroutine *t, const struct ordered *it) {
-    word lock = it->at - (it->how == ACQUIRE ? READER_SEM : WRITER_SEM);
+    word lock = it->at - (word)(it->how == ACQUIRE ? aero_reader_sem : aero_writer_sem);
     aero_suffixed(t, "r", lock, &(struct suffix){".rw", -1, it->place});
 }
 static void writer(struct goroutine *t, const struct ordered *it) {
     if (it->how == ACQUIRE && !(t->half ^= 1)) return;
-    aero_suffixed(t, "w", it->at - READER_SEM, &(struct suffix){".rw", -1, it->place});
+    aero_suffixed(t, "w", it->at - (word)aero_reader_sem, &(struct suffix){".rw", -1, it->place});
 }
 
 /* Done merges, Wait acquires. The first Done behind a Wait begins another round. */
