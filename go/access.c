@@ -6,10 +6,14 @@
  * accessed alone before; besides, eight bytes are logged as a whole, X:8. From then on the first write of a part counts as
  * a write of the whole too, and until then a read of it as a read of the whole.
  *
+ * An atomic operation is one on X.a. If X is accessed both ways, each access counts as one of the other kind too, from its first one of
+ * the other kind on: else a look without and a change with sync/atomic wouldn't conflict.
+ *
  * With AERODROME_GRAIN all accesses to so many bytes are to one variable. */
 #include "log.h"
 
-enum { WHOLE = 1 << 8 };             /* beside a bit for each part: the eight bytes were accessed as a whole */
+/* Beside a bit for each part: the eight bytes were accessed as a whole; the first part, or the fifth one, by an atomic operation. */
+enum { WHOLE = 1 << 8, ATOMIC = 1 << 9, ATOMIC_UPPER = 1 << 10 };
 static char name[512];
 
 static void named(struct goroutine *t, const char *operation, char *end, const struct code *place) {
@@ -29,6 +33,20 @@ void aero_suffixed(struct goroutine *t, const char *operation, word at, const st
     named(t, operation, to, suffix->place);
 }
 
+static uint16_t atomic_at(word at) { return at & 7 ? (at & 7) == 4 ? ATOMIC_UPPER : 0 : ATOMIC; }
+
+static void by_atomic(struct goroutine *t, const char *operation, word at, const struct code *place) {
+    aero_suffixed(t, operation, at, &(struct suffix){".a", -1, place});
+}
+
+void aero_atomic_access(struct goroutine *t, const char *operation, word at, const struct code *place) {
+    uint16_t *parts = aero_parts(at);
+    by_atomic(t, operation, at, place);
+    if (!parts) return;
+    *parts |= atomic_at(at);
+    if (*parts >> (at & 7) & 1) aero_event(t, operation, at, place);
+}
+
 static void whole(struct goroutine *t, const char *operation, word at, const struct code *place) {
     aero_suffixed(t, operation, at & ~(word)7, &(struct suffix){":8", -1, place});
 }
@@ -44,13 +62,16 @@ static void single(struct goroutine *t, const char *operation, word at, const st
     }
     if (!is_known) *parts |= part;
     aero_event(t, operation, at, place);
+    if (parts && (*parts & atomic_at(at))) by_atomic(t, operation, at, place);
 }
 
 /* A unit of eight bytes that a copy has. */
 static void unit(struct goroutine *t, const char *operation, word at, const struct code *place) {
     uint16_t *parts = aero_parts(at);
-    for (word part = 0; part < 8 && parts; part++)
+    for (word part = 0; part < 8 && parts; part++) {
         if (*parts >> part & 1) aero_event(t, operation, at + part, place);
+        if (*parts & atomic_at(at + part)) by_atomic(t, operation, at + part, place);
+    }
     if (parts) *parts |= WHOLE;
     whole(t, operation, at, place);
 }

@@ -17,5 +17,5 @@ void aero_atomic(struct goroutine *t, const struct atomic *it) {
         t->boxed = it->at;
         return;
     }
-    aero_suffixed(t, it->writes ? "w" : "r", it->at, &(struct suffix){".a", -1, it->place});
+    aero_atomic_access(t, it->writes ? "w" : "r", it->at, it->place);
 }

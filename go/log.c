@@ -7,7 +7,7 @@
  * What becomes what:
  *
  *   read, write; slices, maps, copies         r(X), w(X), of each variable in the range; nothing on the goroutine's own stack
- *   sync/atomic: load, failed compare-and-swap  r(X.a); anything else w(X.a)
+ *   sync/atomic: load, failed compare-and-swap  r(X.a); anything else w(X.a). Also X, if it is accessed in both ways (access.c)
  *   Mutex                                     acq(X), rel(X). Once another goroutine has unlocked it: w(X.handed). Locks that the
  *                                             standard library takes itself have no events
  *   Cond.Wait                                 rel(X), acq(X) of its mutex

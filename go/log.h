@@ -262,6 +262,7 @@ struct suffix {
 };
 void aero_access(const struct here *here, struct goroutine *t, const struct access *it);
 bool aero_is_quiet(const struct goroutine *t);
+void aero_atomic_access(struct goroutine *t, const char *operation, word at, const struct code *place);
 void aero_event(struct goroutine *t, const char *operation, word at, const struct code *place);
 void aero_suffixed(struct goroutine *t, const char *operation, word at, const struct suffix *suffix);
 

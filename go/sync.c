@@ -140,11 +140,17 @@ static bool is_own_lock(const struct ordered *it) {
     return (asker == MUTEX || asker == READER || asker == WRITER) && (it->place->is & IS_LIBRARY);
 }
 
-/* Where Cond.Wait unlocks its mutex, it waits. What the program has locked the library may unlock, as by t.Cleanup(mutex.Unlock). */
-static void lock_or_unlock(const struct here *here, struct goroutine *t, const struct ordered *it) {
+/* What the program has locked the library may unlock, as by t.Cleanup(mutex.Unlock). */
+static void lock_or_unlock(struct goroutine *t, const struct ordered *it) {
     bool locks = it->how == ACQUIRE;
     if (!is_own_lock(it) || (!locks && aero_sync(it->at)->owner)) mutex(t, it->at, locks, it->place);
-    if (it->how != ACQUIRE && aero_settings.splits_waits && aero_is_within_wait(here)) aero_waits(t);
+}
+
+/* Where Cond.Wait unlocks its lock, a Mutex or one of the two of a RWMutex, it waits. */
+static void wait_if_unlocked(const struct here *here, struct goroutine *t, const struct ordered *it) {
+    enum asker asker = it->asker->asker;
+    if (it->how == ACQUIRE || (asker != MUTEX && asker != READER && asker != WRITER)) return;
+    if (aero_settings.splits_waits && aero_is_within_wait(here)) aero_waits(t);
 }
 
 /* Whether no other hook of the same operation follows. Who receives without a buffer releases first. */
@@ -159,7 +165,7 @@ void aero_order(const struct here *here, struct goroutine *t, word at, enum orde
     const struct ordered it = {at, how, asker, place};
     aero_drop_dead(t, here, here->stack);
     if (asker->asker == HELPER || asker->asker == NOBODY) return;
-    if (asker->asker == MUTEX) lock_or_unlock(here, t, &it);
+    if (asker->asker == MUTEX) lock_or_unlock(t, &it);
     else if (is_own_lock(&it)) return;
     else if (asker->asker == READER) reader(t, &it);
     else if (asker->asker == WRITER) writer(t, &it);
@@ -167,5 +173,6 @@ void aero_order(const struct here *here, struct goroutine *t, word at, enum orde
     else if (asker->asker == TIMER_FIRES) timer_fires(t, &it);
     else if (asker->asker >= CHANNEL_SEND) aero_channel(t, &it);
     else other(t, &it);
+    wait_if_unlocked(here, t, &it);
     if (is_last(&it)) aero_end_early(t, here);
 }
