@@ -88,6 +88,7 @@ files:
 	install -D -m 755 bin/aerodrome "$(TO)/bin/aerodrome"
 	install -D -m 755 -t "$(TO)/bin" commands/aerodrome-*
 	install -D -m 644 -t "$(TO)/lib/aerodrome/aerodrome_view" commands/aerodrome_view/*.py commands/aerodrome_view/page.css
+	install -D -m 644 -t "$(TO)/lib/aerodrome/aerodrome_refine" commands/aerodrome_refine/*.py
 	install -D -m 644 -t "$(TO)/share/man/man1" docs/*.1
 	@for command in aerodrome aerodrome-merge aerodrome-refine aerodrome-page aerodrome-sarif aerodrome-go; do \
 	install -D -m 644 completions/aerodrome.bash "$(TO)/share/bash-completion/completions/$$command"; done

@@ -1,0 +1,1 @@
+"""What aerodrome-refine is made of."""
