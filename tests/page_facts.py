@@ -2,9 +2,8 @@
 
 - A relative link must lead to a file, and with a #name to a heading in it. README.md must link to every page, and
   docs/definitions.md to every file in specs/.
-- The help, the manual page and the guide must have the same lines of the report, faults and statuses, in the same order; README.md
-  must have the same lines and statuses. These pages must mention each option of the help, and the manual page and the guide each
-  number of the help from 1,000 on. The statuses and options in a script's help must be those of its manual page.
+- The help, the manual page and the guide must have the same lines of the report, faults and statuses, in the same order. The manual
+  page and the guide must mention each option of the help, and each number of the help from 1,000 on. The statuses and options in a script's help must be those of its manual page.
 - The graph in docs/architecture.md must be the one that tools/graph draws from crates.txt, and the lists in completions/aerodrome.bash
   must be those that tools/completions writes.
 - Each file that a page names must exist, and so must each name that a page gives as a crate's: a path such as
@@ -101,12 +100,12 @@ def of_page(text, head):
 
 def compare_tables(program, tally):
     told = subprocess.run([program, "--help"], stdout=subprocess.PIPE, timeout=60, check=False).stdout.decode()
-    manual, guide, readme = text_of(MANUAL), text_of(GUIDE), text_of(README)
+    manual, guide = text_of(MANUAL), text_of(GUIDE)
     lines, statuses = of_help(told)
     faults = [[FAULT.findall(said) for head, said in lines if kind in head] for kind in ("malformed", "ill-formed")]
     tally.note(len(lines) == 8 and len(statuses) == 5 and all(faults), "the help has lines, faults and statuses")
     head = "## The report\n"
-    others = {MANUAL: of_manual(manual), GUIDE: of_page(guide, head), README: of_page(readme, head)}
+    others = {MANUAL: of_manual(manual), GUIDE: of_page(guide, head)}
     for page, (its_lines, its_statuses) in others.items():
         heads = [head for head, _ in its_lines]
         same = heads == [head for head, _ in lines]
@@ -123,7 +122,7 @@ def compare_tables(program, tally):
             there = any(re.search(rf"(?<![\w,^]){re.escape(form)}(?!,?\d)", text) for form in forms_of(int(number)))
             tally.note(there, f"{page}: the number {number} of the help isn't there")
     for option in sorted(set(re.findall(r"(?m)^ +(?:-\w, )?(--[a-z0-9-]+)", told))):
-        for page, text in ((MANUAL, plain(manual)), (GUIDE, guide), (README, readme)):
+        for page, text in ((MANUAL, plain(manual)), (GUIDE, guide)):
             tally.note(option in text, f"{page}: the option {option} isn't there")
 
 
