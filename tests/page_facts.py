@@ -251,12 +251,8 @@ HABITS = {
 }
 ALLOWED = {
     "CONTRIBUTING.md": {"stand": 1},
-    "docs/aerodrome-cc.1": {"stand": 2},
-    "docs/aerodrome-java.1": {"stand": 1},
     "docs/architecture.md": {"stand": 1},
     "docs/definitions.md": {"stand": 6},
-    "docs/java.md": {"stand": 2},
-    "docs/logging.md": {"stand": 4},
     "docs/proving.md": {"stand": 2},
 }
 
