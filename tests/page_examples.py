@@ -6,8 +6,8 @@ one marked `text` runs in a folder of its own. sh runs each line that begins wit
 is PROGRAM, and the scripts have the names under which they are installed. The folder contains the repository's examples/ and
 tools/. If `cat FILE` shows a file that doesn't exist, the file is made from the lines shown. A command may take 600 seconds, or
 as many as CASE_SECONDS says. If an example calls aerodrome-cc or aerodrome-c++, the logger is built for it, the logger for Go
-if it calls aerodrome-go, and the agent for Java if it runs java with the agent. Without gcc, go, a JDK or JUnit it is skipped
-or fails, as SKIPS says (tests/run): its words are c, go and java.
+if it calls aerodrome-go, and the agent for Java, with its path in AGENT, if it runs java with the agent. Without gcc, go, a JDK
+or JUnit it is skipped or fails, as SKIPS says (tests/run): its words are c, go and java.
 
 If a block of commands can't be run here, it is marked `text not run: WHY`, and any other text is marked `text no commands`; a
 reader of the page sees only the first word of the mark. A manual page has `not run: WHY` or `no commands` in a comment before
@@ -55,6 +55,7 @@ class Room:
         self.environment = {**os.environ, "PATH": path, "LC_ALL": "C"}
         for name in [name for name in self.environment if name.startswith("AERODROME")]:
             del self.environment[name]
+        self.environment["AGENT"] = f"{self.at}/aerodrome-agent.jar"
 
     def build_logger(self):
         """Builds the logger for C if it isn't built yet, and returns why it can't be built, or nothing."""
@@ -129,7 +130,7 @@ def run_block(page, room, lines, tally):
     for needs, build, kind in (
         (r"aerodrome-c(c|\+\+)", room.build_logger, "c"),
         (r"aerodrome-go ", room.build_go, "go"),
-        (r"aerodrome-agent\.jar", room.build_agent, "java"),
+        (r"aerodrome-agent\.jar|\$AGENT\b", room.build_agent, "java"),
         (r"junit-platform", room.find_junit, "java"),
     ):
         missing = build() if any(re.search(needs, line) for line in lines) else ""
