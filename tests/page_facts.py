@@ -1,7 +1,7 @@
 """Checks the pages against the program, the repository and each other, and counts habits of their sentences.
 
-- A relative link must lead to a file, and with a #name to a heading in it. README.md must link to every page, and
-  docs/definitions.md to every file in specs/.
+- A relative link must lead to a file, and with a #name to a heading in it. README.md, or a page that it links to, must link to every
+  page, and docs/definitions.md to every file in specs/.
 - The help, the manual page and the guide must have the same lines of the report, faults and statuses, in the same order. The manual
   page and the guide must mention each option of the help, and each number of the help from 1,000 on. The statuses and options in a script's help must be those of its manual page.
 - The graph in docs/architecture.md must be the one that tools/graph draws from crates.txt, and the lists in completions/aerodrome.bash
@@ -294,11 +294,19 @@ def check_page(page, tally):
         look_for_names(page, tally)
 
 
+def linked_from(page):
+    """The files to which a page links."""
+    paths = {link.partition("#")[0] for link in links_of(page)} - {""}
+    return {os.path.normpath(os.path.join(os.path.dirname(page), path)) for path in paths}
+
+
 def link_all(pages, tally):
-    """README.md has a link to each page, and the page of definitions to each file of them."""
-    linked = {os.path.normpath(link.partition("#")[0]) for link in links_of(README)}
+    """One or two links lead from README.md to each page, and one from the page of definitions to each file of them."""
+    linked = linked_from(README)
+    for page in [page for page in linked if page in pages and not is_manual(page)]:
+        linked = linked | linked_from(page)
     for page in pages:
-        tally.note(page == README or page in linked, f"{README}: no link leads to {page}")
+        tally.note(page == README or page in linked, f"{README}: neither it nor a page that it links to has a link to {page}")
     read_aloud = {os.path.normpath(f"docs/{link}") for link in links_of(DEFINITIONS)}
     for spec in sorted(glob.glob("crates/*/specs/*.antt", root_dir=TOP)):
         tally.note(spec in read_aloud or spec.endswith("/Lib.antt"), f"{DEFINITIONS}: no link leads to {spec}")
