@@ -11,7 +11,7 @@ import shutil
 from typing import NamedTuple
 
 NO_RT = (
-    "no command rt on the path. It belongs to the Rattle kit, version rattle-kit-13f (`rt version` prints the version), which isn't "
+    "no command rt on the path. It belongs to the Rattle kit (docs/install.md says which versions work), which isn't "
     "public: ask whoever gave you this source. Then put the kit's folder bin/ on your path. "
     "`make logger` and `make java` don't need it."
 )
