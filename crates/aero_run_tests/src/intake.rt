@@ -1,7 +1,7 @@
 // How sources come and end, step by step, and which plans there are.
 use crate::except::listed;
 use aero_intake::intake::Taken;
-use aero_intake::{Intake, Keeping, Plan};
+use aero_intake::{Intake, Plan};
 use aero_model::{Counting, Ending, Limits};
 use std::alloc::{AllocError, Global};
 use std::io;
@@ -10,10 +10,10 @@ use std::test::Fail;
 
 // A reader that fails at one call, once it has given so many bytes, and works again afterwards.
 #[derive(Drop)]
-pub(crate) struct BreaksOnce<'a> {
-    pub(crate) text: &'a [u8],
-    pub(crate) left: usize,
-    pub(crate) has_failed: bool,
+struct BreaksOnce<'a> {
+    text: &'a [u8],
+    left: usize,
+    has_failed: bool,
 }
 
 impl Read for BreaksOnce<'_> {
@@ -29,7 +29,7 @@ impl Read for BreaksOnce<'_> {
 }
 
 // The bytes of a text that is written with `/` for each byte 10.
-pub(crate) fn lines_of(alloc: Global, text: &str) -> Result<Vec<u8>, AllocError> {
+fn lines_of(alloc: Global, text: &str) -> Result<Vec<u8>, AllocError> {
     let mut bytes = text.as_bytes().to_vec(alloc)?;
     for byte in bytes.iter_mut() {
         if *byte == b'/' {
@@ -332,36 +332,5 @@ fn a_plan_is_within_its_bounds(rt: HostRuntime) -> Result<(), Fail> {
         let plan = Plan::new(workers, piece, Limits::greatest(), labels, order);
         assert!(rt; plan.is_some() == is_plan, "{workers} {piece}");
     }
-    Ok(())
-}
-
-// How many events are kept of a source at most, of the last one or another, where the plan doesn't say, and where it does.
-#[test]
-fn a_plan_says_how_much_is_kept(rt: HostRuntime) -> Result<(), Fail> {
-    let labels = listed(rt.alloc(), "a").ok_or("labels")?;
-    let plan = Plan::new(1, 1, Limits::greatest(), labels, false).ok_or("no plan")?;
-    let usual = (plan.keeping.most(false), plan.keeping.most(true));
-    let plan = plan.with_keeping(Keeping {
-        events: 7,
-        last_events: 3,
-    });
-    let other = (plan.keeping.most(false), plan.keeping.most(true));
-    assert_eq!(rt; (usual, other), ((1_048_576, 65_536), (7, 3)));
-    Ok(())
-}
-
-// Nothing is to be explained, unless that is asked for, and nothing else changes by that.
-#[test]
-fn a_plan_may_explain_violations(rt: HostRuntime) -> Result<(), Fail> {
-    let labels = listed(rt.alloc(), "a").ok_or("labels")?;
-    let plan = Plan::new(2, 3, Limits::greatest(), labels, true).ok_or("no plan")?;
-    assert!(rt; !plan.terms.explain());
-    let plan = plan.explaining();
-    let terms = plan.terms.share()?;
-    assert!(rt; terms.explain() && terms.order());
-    assert_eq!(rt;
-        (plan.workers, plan.piece, plan.keeping.most(true)),
-        (2, 3, 65_536)
-    );
     Ok(())
 }

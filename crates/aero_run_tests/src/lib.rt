@@ -2,14 +2,12 @@
 //! crew, and reports.
 //!
 //! A crate with tests is proved twice, with them and without, so they stand here, above all of the
-//! crates, and each is proved once. A module has the tests of the crate that it is named for, and
-//! `objects`, `cycle_objects` and `summaries` those of the report as JSON, and `shown` those of names on a terminal. It has nothing for other crates.
+//! crates, and each is proved once. A module has the tests of the crate that it is named for, and `alone` has those of
+//! `aero_intake::alone`. The crate has nothing for other crates.
 #![tactic(auto)]
 
 #[cfg(test)]
 mod alone;
-#[cfg(test)]
-mod cycle_objects;
 #[cfg(test)]
 mod except;
 #[cfg(test)]
@@ -17,18 +15,10 @@ mod gather;
 #[cfg(test)]
 mod intake;
 #[cfg(test)]
-mod live;
-#[cfg(test)]
-mod objects;
-#[cfg(test)]
 mod pieces;
 #[cfg(test)]
 mod report;
 #[cfg(test)]
-mod shown;
-#[cfg(test)]
 mod stage;
-#[cfg(test)]
-mod summaries;
 #[cfg(test)]
 mod worker;

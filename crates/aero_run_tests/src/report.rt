@@ -1,11 +1,9 @@
 // What no clause says: texts known from elsewhere, and writers that fail or take nothing.
 ghost use Rattle.std.specs.Prelude.{◌≡◌, ◌≤◌, IfOk, Some};
 
-use aero_model::verdict::{
-    Counts, Cycle, CycleStep, Finding, LineFault as Line, ShapeFault as Shape, Step, Verdict,
-};
-use aero_model::{Counting, Event, Name, Op};
-use aero_report::{Cut, cycle_text, put, summary_text, trace_text};
+use aero_model::verdict::{Counts, Finding, Verdict};
+use aero_model::{Counting, Name};
+use aero_report::{Cut, put, summary_text, trace_text};
 use std::alloc::Global;
 use std::io;
 use std::io::Write;
@@ -123,71 +121,6 @@ fn has_line(alloc: Global, finding: &Finding, line: &str) -> bool {
     }
 }
 
-// Whether a cycle has these lines by itself.
-fn has_lines(alloc: Global, cycle: &Cycle, lines: &str) -> bool {
-    match cycle_text(alloc, cycle) {
-        Ok(text) => text.as_slice() == lines.as_bytes(),
-        Err(_) => false,
-    }
-}
-
-fn push_step(alloc: Global, steps: &mut Vec<Step>, line: u32, thread: &str) -> bool {
-    match Name::read(alloc, thread.as_bytes()) {
-        Ok(thread) => steps.push(Step { line, thread }).is_ok(),
-        Err(_) => false,
-    }
-}
-
-// How many events and blocks a serializable trace has, its transactions in order, each by its line and its thread, and
-// its lines.
-type Ordered = ((u32, u32), &'static [(u32, &'static str)], &'static str);
-
-fn is_ordered_so(alloc: Global, row: &Ordered) -> bool {
-    let ((events, blocks), order, line) = *row;
-    let mut steps = Vec::new(alloc);
-    let mut fits = true;
-    for i in 0..order.len() {
-        fits &= push_step(alloc, &mut steps, order[i].0, order[i].1);
-    }
-    let finding = Finding::Ordered(Verdict::Serializable { events, blocks }, steps);
-    fits && has_line(alloc, &finding, line)
-}
-
-// The first row that doesn't hold.
-fn first_misordered(alloc: Global, rows: &[Ordered]) -> Option<usize> {
-    for i in 0..rows.len() {
-        if !is_ordered_so(alloc, &rows[i]) {
-            return Some(i);
-        }
-    }
-    None
-}
-
-static ORDERED: [Ordered; 4] = [
-    ((0, 0), &[], "n: serializable (0 events, 0 blocks)\n"),
-    (
-        (1, 0),
-        &[(4, "a thread")],
-        "n: serializable (1 events, 0 blocks)\n  4 a thread\n",
-    ),
-    (
-        (4, 1),
-        &[(2, "T2"), (1, "T1")],
-        "n: serializable (4 events, 1 blocks)\n  2 T2\n  1 T1\n",
-    ),
-    (
-        (2, 0),
-        &[(1, "T1"), (268_435_456, "T1")],
-        "n: serializable (2 events, 0 blocks)\n  1 T1\n  268435456 T1\n",
-    ),
-];
-
-// The transactions in order have a line each behind that of the verdict.
-#[test]
-fn each_step_has_its_line(rt: HostRuntime) {
-    assert_eq!(rt; first_misordered(rt.alloc(), &ORDERED), None);
-}
-
 fn is_serializable_so(alloc: Global, events: u32, blocks: u32, line: &str) -> bool {
     let verdict = Verdict::Serializable { events, blocks };
     has_line(alloc, &Finding::Judged(verdict), line)
@@ -214,71 +147,6 @@ fn is_pending_so(alloc: Global) -> bool {
     has_line(alloc, &Finding::Judged(verdict), line)
 }
 
-// The line of a write of `target`, the first line of its transaction, and its thread and target.
-type Written = (u32, u32, &'static str, &'static str);
-
-fn push_write(alloc: Global, steps: &mut Vec<CycleStep>, row: &Written) -> bool {
-    let (line, first, thread, target) = *row;
-    let Ok(thread) = Name::read(alloc, thread.as_bytes()) else {
-        return false;
-    };
-    let Ok(target) = Name::read(alloc, target.as_bytes()) else {
-        return false;
-    };
-    let event = Event {
-        thread,
-        op: Op::Write,
-        target: Some(target),
-    };
-    steps.push(CycleStep { line, first, event }).is_ok()
-}
-
-static CYCLE: [Written; 3] = [(2, 1, "T1", "x"), (3, 3, "T2", "x"), (4, 1, "T1", "x")];
-
-fn is_explained_so(alloc: Global) -> bool {
-    let Ok(thread) = Name::read(alloc, b"T1") else {
-        return false;
-    };
-    let verdict = Verdict::Violation {
-        line: 4,
-        thread,
-        begun: 1,
-    };
-    let Ok(label) = Name::read(alloc, b"f g") else {
-        return false;
-    };
-    let mut steps = Vec::new(alloc);
-    let mut fits = true;
-    for i in 0..CYCLE.len() {
-        fits &= push_write(alloc, &mut steps, &CYCLE[i]);
-    }
-    let Ok(ending) = Name::read(alloc, b"T1") else {
-        return false;
-    };
-    let closing = Event {
-        thread: ending,
-        op: Op::End,
-        target: None,
-    };
-    let cycle = Cycle {
-        label: Some(label),
-        steps,
-        transactions: Vec::new(alloc),
-        closing,
-    };
-    let lines =
-        "n: violation at line 4: block of T1 from line 1\n  label f g\n  2 1 T1|w(x)\n  3 3 T2|w(x)\n  4 1 T1|w(x)\n";
-    let alone = "  label f g\n  2 1 T1|w(x)\n  3 3 T2|w(x)\n  4 1 T1|w(x)\n";
-    fits &= has_lines(alloc, &cycle, alone);
-    fits && has_line(alloc, &Finding::Explained(verdict, cycle), lines)
-}
-
-// The label of the block and the events of a cycle have a line each behind that of the violation.
-#[test]
-fn each_event_of_a_cycle_has_its_line(rt: HostRuntime) {
-    assert!(rt; is_explained_so(rt.alloc()));
-}
-
 fn is_violation_so(alloc: Global) -> bool {
     let Ok(thread) = Name::read(alloc, b"T1") else {
         return false;
@@ -303,64 +171,6 @@ fn each_finding_has_its_line(rt: HostRuntime) {
         is_violation_so(alloc),
     ];
     assert_eq!(rt; are_told, [true; 5]);
-}
-
-fn first_mistaken_malformed(alloc: Global, rows: &[(Line, &str)]) -> Option<usize> {
-    for i in 0..rows.len() {
-        let (fault, line) = rows[i];
-        let verdict = Verdict::Malformed { line: 2, fault };
-        if !has_line(alloc, &Finding::Judged(verdict), line) {
-            return Some(i);
-        }
-    }
-    None
-}
-
-fn first_mistaken_ill_formed(alloc: Global, rows: &[(Shape, &str)]) -> Option<usize> {
-    for i in 0..rows.len() {
-        let (fault, line) = rows[i];
-        let verdict = Verdict::IllFormed { line: 3, fault };
-        if !has_line(alloc, &Finding::Judged(verdict), line) {
-            return Some(i);
-        }
-    }
-    None
-}
-
-static MALFORMED: [(Line, &str); 10] = [
-    (Line::TooLong, "n:2: malformed: TooLong\n"),
-    (Line::BadByte, "n:2: malformed: BadByte\n"),
-    (Line::NoOperation, "n:2: malformed: NoOperation\n"),
-    (Line::EmptyThread, "n:2: malformed: EmptyThread\n"),
-    (Line::UnknownOperation, "n:2: malformed: UnknownOperation\n"),
-    (Line::BadParenthesis, "n:2: malformed: BadParenthesis\n"),
-    (Line::MissingTarget, "n:2: malformed: MissingTarget\n"),
-    (Line::NameTooLong, "n:2: malformed: NameTooLong\n"),
-    (Line::TooManyLines, "n:2: malformed: TooManyLines\n"),
-    (Line::Memory, "n:2: malformed: Memory\n"),
-];
-
-static ILL_FORMED: [(Shape, &str); 10] = [
-    (Shape::TooManyThreads, "n:3: ill-formed: TooManyThreads\n"),
-    (Shape::TooManyNames, "n:3: ill-formed: TooManyNames\n"),
-    (Shape::ThreadJoined, "n:3: ill-formed: ThreadJoined\n"),
-    (Shape::LockHeldByOther, "n:3: ill-formed: LockHeldByOther\n"),
-    (Shape::LockNotHeld, "n:3: ill-formed: LockNotHeld\n"),
-    (Shape::ForkSelf, "n:3: ill-formed: ForkSelf\n"),
-    (Shape::ForkStarted, "n:3: ill-formed: ForkStarted\n"),
-    (Shape::JoinSelf, "n:3: ill-formed: JoinSelf\n"),
-    (Shape::EndWithoutBegin, "n:3: ill-formed: EndWithoutBegin\n"),
-    (Shape::Memory, "n:3: ill-formed: Memory\n"),
-];
-
-#[test]
-fn each_fault_has_its_line(rt: HostRuntime) {
-    let alloc = rt.alloc();
-    let mistaken = [
-        first_mistaken_malformed(alloc, &MALFORMED),
-        first_mistaken_ill_formed(alloc, &ILL_FORMED),
-    ];
-    assert_eq!(rt; mistaken, [None; 2]);
 }
 
 // Four counts, and the line on them.

@@ -1,8 +1,9 @@
 // What no clause says: that workers answer, that they work at once, and that a crew ends where nobody receives,
 // where no thread can be made and where memory is refused.
 use crate::except::listed;
+use crate::pieces::is_read;
 use aero_grammar::parse_block;
-use aero_model::{Limits, Verdict, What};
+use aero_model::{Limits, Verdict};
 use aero_pieces::{Answer, Bytes, Parts, Question, Value, same};
 use aero_stage::Job;
 use aero_worker::{Crew, CrewReport, Gate, NoGate, Reply, reply_with};
@@ -62,24 +63,6 @@ fn trace_question(alloc: Global) -> Option<Arc<Question>> {
 fn job(number: u64, question: &Arc<Question>) -> Option<Job> {
     let question = Arc::try_clone(question).ok()?;
     Some(Job { number, question })
-}
-
-// The value is the one event, a read of `x` by `T1` on the first line.
-fn is_read(value: &Value) -> bool {
-    let Value::Parsed(parsed) = value else {
-        return false;
-    };
-    let Some(event) = parsed.events.first() else {
-        return false;
-    };
-    let (line, event) = event.parts();
-    parsed.lines == 1
-        && parsed.fault == None
-        && parsed.events.len() == 1
-        && line == 1
-        && event.what == What::Read(0)
-        && parsed.threads.name(event.thread) == Some(b"T1".as_slice())
-        && parsed.variables.name(0) == Some(b"x".as_slice())
 }
 
 fn is_cycle(value: &Value) -> bool {
@@ -577,40 +560,4 @@ fn what_has_no_worker_or_no_memory(rt: HostRuntime) -> Result<(), Fail> {
     assert!(rt; is_refusal_missed());
     assert_eq!(rt; is_answer_done(rt.alloc()), Some(true));
     Ok(())
-}
-
-// Lets a question go to a crew of one worker: how many handles of it there are as long as the worker has no job,
-// whether a job is answered that is posted then, and how many handles there are after that.
-fn let_one_go<R: Threads + Wait + Copy + Send + 'static>(
-    rt: R,
-    alloc: Global,
-    gate: Arc<NoGate>,
-    only: Job,
-    (kept, other): (&Arc<Question>, Arc<Question>),
-) -> Option<(usize, bool, usize)> {
-    let mut crew = Crew::start(rt, alloc, 1, gate).ok()?;
-    crew.let_go(&rt, other);
-    let before = Arc::strong_count(kept);
-    let is_answered = crew.post(&rt, only).is_ok() & is_done(crew.next_answer(&rt), kept);
-    let after = Arc::strong_count(kept);
-    crew.close(&rt);
-    Some((before, is_answered, after))
-}
-
-// The same, with what it needs.
-fn let_a_question_go<R: Threads + Wait + Copy + Send + 'static>(
-    rt: R,
-    alloc: Global,
-) -> Option<(usize, bool, usize)> {
-    let kept = block_question(alloc)?;
-    let other = Arc::try_clone(&kept).ok()?;
-    let only = job(0, &block_question(alloc)?)?;
-    let gate = Arc::new(alloc, NoGate).ok()?;
-    let_one_go(rt, alloc, gate, only, (&kept, other))
-}
-
-// The caller makes no call between the two counts that frees a question, so the worker does: before it answers.
-#[test]
-fn what_is_let_go_is_freed_by_a_worker(rt: HostRuntime) {
-    assert_eq!(rt; let_a_question_go(rt, rt.alloc()), Some((2, true, 1)));
 }
