@@ -1,7 +1,8 @@
+use crate::pieces::block_question;
 use aero_gather::{Gather, Settled, Tally, Ticket};
 use aero_grammar::Parsed;
 use aero_model::What;
-use aero_pieces::{Answer, Bytes, Question, Value};
+use aero_pieces::{Answer, Question, Value};
 use std::alloc::Global;
 use std::sync::Arc;
 
@@ -22,13 +23,7 @@ enum Step {
 // The helpers below put words behind those so far, and say whether they could: they can't where memory is refused.
 
 fn question(alloc: Global, line: &str) -> Option<Arc<Question, Global>> {
-    let bytes = Bytes::new(line.as_bytes().to_vec(alloc).ok()?)?;
-    let question = Question::Parse {
-        trace: 0,
-        number: 0,
-        bytes,
-    };
-    question.share(alloc).ok()
+    block_question(alloc, 0, 0, line)?.share(alloc).ok()
 }
 
 fn push_bytes(words: &mut String, bytes: &[u8]) -> bool {

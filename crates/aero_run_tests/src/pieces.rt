@@ -13,7 +13,12 @@ fn lines(alloc: Global, text: &str) -> Option<Bytes> {
 }
 
 // What a block of a trace says.
-fn block_question(alloc: Global, trace: u64, number: u64, block: &str) -> Option<Question> {
+pub(crate) fn block_question(
+    alloc: Global,
+    trace: u64,
+    number: u64,
+    block: &str,
+) -> Option<Question> {
     let bytes = lines(alloc, block)?;
     Some(Question::Parse {
         trace,
@@ -44,7 +49,12 @@ fn parts_of(alloc: Global, blocks: &str) -> Option<Vec<Parsed>> {
 
 // The verdict on a trace, whose blocks stand between `;`, where these labels are listed, and its order
 // if that is asked for.
-fn trace_question(alloc: Global, labels: &str, blocks: &str, order: bool) -> Option<Question> {
+pub(crate) fn trace_question(
+    alloc: Global,
+    labels: &str,
+    blocks: &str,
+    order: bool,
+) -> Option<Question> {
     let except = listed(alloc, labels)?;
     Some(Question::Check {
         trace: 0,
@@ -206,20 +216,16 @@ fn the_order_of_a_serializable_trace_is_given_where_it_is_asked_for(rt: HostRunt
 // A question on a block: the numbers of its trace and of itself, and its lines.
 type Block = (u64, u64, &'static str);
 
-fn question_of(alloc: Global, (trace, number, lines): Block) -> Option<Question> {
-    block_question(alloc, trace, number, lines)
-}
-
 // Whether the first question is the same as the other, and the other as the first.
 fn are_same(alloc: Global, first: Block, other: Block) -> Option<(bool, bool)> {
-    let first = question_of(alloc, first)?;
-    let other = question_of(alloc, other)?;
+    let first = block_question(alloc, first.0, first.1, first.2)?;
+    let other = block_question(alloc, other.0, other.1, other.2)?;
     Some((same(&first, &other), same(&other, &first)))
 }
 
 // Whether the question is the same as itself.
 fn is_same(alloc: Global, asked: Block) -> Option<bool> {
-    let question = question_of(alloc, asked)?;
+    let question = block_question(alloc, asked.0, asked.1, asked.2)?;
     Some(same(&question, &question))
 }
 

@@ -1,6 +1,7 @@
 ghost use Rattle.std.specs.Prelude.{◌≡◌};
 
-use aero_pieces::{Bytes, Question};
+use crate::pieces::block_question;
+use aero_pieces::Question;
 use aero_stage::{Job, Poster, Taker, stage};
 use std::alloc::{AllocError, Global};
 use std::process::Abort;
@@ -9,12 +10,7 @@ use std::test::Fail;
 
 // A job with this number, and a question about the block with this one. `None` where memory is refused.
 fn job(alloc: Global, number: u64, block: u64) -> Option<Job> {
-    let bytes = Bytes::new(b"T1|r(x)".to_vec(alloc).ok()?)?;
-    let question = Question::Parse {
-        trace: 0,
-        number: block,
-        bytes,
-    };
+    let question = block_question(alloc, 0, block, "T1|r(x)")?;
     Some(Job {
         number,
         question: question.share(alloc).ok()?,

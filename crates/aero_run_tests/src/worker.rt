@@ -1,10 +1,9 @@
 // What no clause says: that workers answer, that they work at once, and that a crew ends where nobody receives,
 // where no thread can be made and where memory is refused.
-use crate::except::listed;
+use crate::pieces;
 use crate::pieces::is_read;
-use aero_grammar::parse_block;
-use aero_model::{Limits, Verdict};
-use aero_pieces::{Answer, Bytes, Parts, Question, Value, same};
+use aero_model::Verdict;
+use aero_pieces::{Answer, Question, Value, same};
 use aero_stage::Job;
 use aero_worker::{Crew, CrewReport, Gate, NoGate, Reply, reply_with};
 use std::alloc::{AllocError, Global};
@@ -27,37 +26,21 @@ const NOT_POSTED: &str = "a job wasn't posted within 20,000,000 turns";
 
 const NOT_ANSWERED: &str = "66 answers didn't come within 20,000,000 turns";
 
-// A trace in which the block of T1 closes a cycle with its last event.
-const CYCLE: &[u8] = b"T1|begin\nT2|begin\nT1|w(x)\nT2|r(x)\nT2|w(y)\nT1|r(y)";
+// A trace in which the block of T1 closes a cycle with its last event. `/` stands for a newline.
+const CYCLE: &str = "T1|begin/T2|begin/T1|w(x)/T2|r(x)/T2|w(y)/T1|r(y)";
 
 // The helpers below give `None` where memory is refused.
 
 fn block_question(alloc: Global) -> Option<Arc<Question>> {
-    text_question(alloc, b"T1|r(x)")
-}
-
-fn text_question(alloc: Global, text: &[u8]) -> Option<Arc<Question>> {
-    let bytes = Bytes::new(text.to_vec(alloc).ok()?)?;
-    let question = Question::Parse {
-        trace: 0,
-        number: 0,
-        bytes,
-    };
-    question.share(alloc).ok()
+    pieces::block_question(alloc, 0, 0, "T1|r(x)")?
+        .share(alloc)
+        .ok()
 }
 
 fn trace_question(alloc: Global) -> Option<Arc<Question>> {
-    let mut parts = Vec::with_capacity(alloc, 1).ok()?;
-    parts.push(parse_block(alloc, CYCLE).ok()?).ok()?;
-    let question = Question::Check {
-        trace: 0,
-        parsed: Parts::new(parts),
-        limits: Limits::greatest(),
-        except: listed(alloc, "")?,
-        order: false,
-        explain: false,
-    };
-    question.share(alloc).ok()
+    pieces::trace_question(alloc, "", CYCLE, false)?
+        .share(alloc)
+        .ok()
 }
 
 fn job(number: u64, question: &Arc<Question>) -> Option<Job> {
@@ -560,4 +543,40 @@ fn what_has_no_worker_or_no_memory(rt: HostRuntime) -> Result<(), Fail> {
     assert!(rt; is_refusal_missed());
     assert_eq!(rt; is_answer_done(rt.alloc()), Some(true));
     Ok(())
+}
+
+// Lets a question go to a crew of one worker: how many handles of it there are as long as the worker has no job,
+// whether a job is answered that is posted then, and how many handles there are after that.
+fn let_one_go<R: Threads + Wait + Copy + Send + 'static>(
+    rt: R,
+    alloc: Global,
+    gate: Arc<NoGate>,
+    only: Job,
+    (kept, other): (&Arc<Question>, Arc<Question>),
+) -> Option<(usize, bool, usize)> {
+    let mut crew = Crew::start(rt, alloc, 1, gate).ok()?;
+    crew.let_go(&rt, other);
+    let before = Arc::strong_count(kept);
+    let is_answered = crew.post(&rt, only).is_ok() & is_done(crew.next_answer(&rt), kept);
+    let after = Arc::strong_count(kept);
+    crew.close(&rt);
+    Some((before, is_answered, after))
+}
+
+// The same, with what it needs.
+fn let_a_question_go<R: Threads + Wait + Copy + Send + 'static>(
+    rt: R,
+    alloc: Global,
+) -> Option<(usize, bool, usize)> {
+    let kept = block_question(alloc)?;
+    let other = Arc::try_clone(&kept).ok()?;
+    let only = job(0, &block_question(alloc)?)?;
+    let gate = Arc::new(alloc, NoGate).ok()?;
+    let_one_go(rt, alloc, gate, only, (&kept, other))
+}
+
+// The caller makes no call between the two counts that frees a question, so the worker does: before it answers.
+#[test]
+fn what_is_let_go_is_freed_by_a_worker(rt: HostRuntime) {
+    assert_eq!(rt; let_a_question_go(rt, rt.alloc()), Some((2, true, 1)));
 }
