@@ -7,7 +7,10 @@ import java.lang.annotation.RetentionPolicy;
 import java.lang.annotation.Target;
 import org.junit.jupiter.api.extension.ExtendWith;
 
-/** A test method fails if the checker finds that a block in its log isn't atomic. On a class: each test method of the class. */
+/**
+ * A test method fails if the checker finds that a block in its log isn't atomic, or finds no block there. On a class: each test method
+ * of the class.
+ */
 @Target({ElementType.TYPE, ElementType.METHOD})
 @Retention(RetentionPolicy.RUNTIME)
 @Inherited

@@ -12,8 +12,8 @@ import org.junit.jupiter.api.extension.ExtensionConfigurationException;
 import org.junit.jupiter.api.extension.ExtensionContext;
 
 /**
- * Has the agent write a log of each test method, and the checker judge it. The method fails if a block isn't atomic, or if its log
- * can't be written or judged. The method itself is no block.
+ * Has the agent write a log of each test method, and the checker judge it. The method fails if a block isn't atomic, if its log has
+ * no block, or if its log can't be written or judged. The method itself is no block.
  *
  * The bootstrap loader, which loads the agent, mustn't find this class, because it doesn't find JUnit: see java/build.
  */
@@ -47,7 +47,9 @@ public final class AtomicityExtension implements BeforeTestExecutionCallback, Af
             if (!running.isEmpty())
                 say(context, "threads still run, and their later events aren't in the log: " + String.join(", ", running));
             Verdict verdict = Verdict.of(context.getConfigurationParameter(PROGRAM).orElse("aerodrome"), log, label);
-            if (verdict.isFailure) throw new AssertionError(verdict.text);
+            // A test that fails by itself, or that an assumption aborts, may end before its first block.
+            boolean hasRun = context.getExecutionException().isEmpty();
+            if (verdict.isViolation || verdict.isOfNothing && hasRun) throw new AssertionError(verdict.text);
             if (!verdict.text.isEmpty()) say(context, verdict.text);
         } catch (IOException cannot) {
             throw new ExtensionConfigurationException(log + " isn't judged: " + cannot.getMessage());

@@ -16,13 +16,17 @@ final class Verdict {
     private static final Pattern VIOLATION = Pattern.compile("violation at line (\\d+): block of (\\S+) from line (\\d+)");
     private static final Pattern SERIALIZABLE = Pattern.compile("serializable \\(\\d+ events, (\\d+) blocks\\)");
     private static final Pattern OPEN = Pattern.compile("no violation, (\\d+) blocks open \\(.*\\)");
+    private static final String NOTHING =
+            "no block to check: it called no method that is a block by the options blocks=, only= and skip=";
 
-    final boolean isFailure;
-    /** What is to be said, or nothing. */
+    /** Whether the log has a violation, and whether it has no block, so that nothing was checked. */
+    final boolean isViolation, isOfNothing;
+    /** The message, which is empty if there is nothing to report. */
     final String text;
 
-    private Verdict(boolean isFailure, String text) {
-        this.isFailure = isFailure;
+    private Verdict(boolean isViolation, boolean isOfNothing, String text) {
+        this.isViolation = isViolation;
+        this.isOfNothing = isOfNothing;
         this.text = text;
     }
 
@@ -31,10 +35,11 @@ final class Verdict {
         List<String> report = report(program, log, except);
         String first = report.get(0), said = first.startsWith(log + ": ") ? first.substring(log.length() + 2) : first;
         Matcher violation = VIOLATION.matcher(said), serializable = SERIALIZABLE.matcher(said), open = OPEN.matcher(said);
-        if (violation.matches()) return new Verdict(true, blame(log, report, violation));
-        if (open.matches()) return new Verdict(false, "no violation, but blocks are open at the log's end: " + open.group(1));
+        if (violation.matches()) return new Verdict(true, false, blame(log, report, violation));
+        if (open.matches()) return new Verdict(false, false, "no violation, but blocks are open at the log's end: " + open.group(1));
         if (!serializable.matches()) throw new IOException(said);
-        return new Verdict(false, serializable.group(1).equals("0") ? "no block to check" : "");
+        boolean isOfNothing = serializable.group(1).equals("0");
+        return new Verdict(false, isOfNothing, isOfNothing ? NOTHING : "");
     }
 
     // ---- the report

@@ -1,5 +1,6 @@
 import aerodrome.junit.AtomicityExtension;
 import org.junit.jupiter.api.Assertions;
+import org.junit.jupiter.api.Assumptions;
 import org.junit.jupiter.api.RepeatedTest;
 import org.junit.jupiter.api.Test;
 import org.junit.jupiter.api.extension.ExtendWith;
@@ -31,6 +32,8 @@ class CounterTest {
         Turns.isFirstBetween = true;
         counter.add();
     }
+
+    @Test void unmet() { Assumptions.assumeTrue(false, "not here"); }
 
     @Test void withoutBlocks() { }
 

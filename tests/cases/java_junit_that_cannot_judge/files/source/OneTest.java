@@ -3,5 +3,7 @@ import org.junit.jupiter.api.Test;
 
 @Atomicity
 class OneTest {
-    @Test void runs() { System.err.println("it runs"); }
+    static void prints() { System.err.println("it runs"); }
+
+    @Test void runs() { prints(); }
 }

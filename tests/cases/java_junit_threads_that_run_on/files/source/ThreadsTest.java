@@ -42,6 +42,7 @@ class ThreadsTest {
     @Test void cStopsIt() throws Exception {
         Shared.isStopped = true;
         left.join();
+        Shared.addLate(1);
     }
 
     @Test void dStartsPool() throws Exception {
