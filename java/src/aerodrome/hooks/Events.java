@@ -46,17 +46,19 @@ final class Events {
             }
     }
 
-    /** Releases the lock so often, or as often as it is held. Says how often. */
+    /** Releases the lock so often, or as often as it is held, which is returned. A log that has ended takes none of these lines. */
     static int release(LoggedThread me, Object lock, int times, int site) {
         int place = me.held.place(Numbers.of(lock));
-        int done = 0;
-        for (; done < times && me.held.counts[place] > 0; done++)
+        int count = Math.min(times, me.held.counts[place]);
+        for (int left = count; left > 0; left--) {
             try {
                 me.line.isWritten = false;
                 write(me, RELEASE, lock, site);
             } finally {
                 if (me.line.isWritten) me.held.counts[place]--;
             }
-        return done;
+            if (!me.line.isWritten) break;
+        }
+        return count;
     }
 }
