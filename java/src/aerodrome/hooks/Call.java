@@ -93,8 +93,17 @@ public final class Call {
     private void beforeChange() {
         boolean isIfAbsent = kind == Kind.KEY_IF_ABSENT;
         kind = receiver.getClass() == ConcurrentHashMap.class ? Kind.KEY_WITHIN
-                : isIfAbsent && argument != null && Maps.hasKey(receiver, argument) ? Kind.KEY_READ : Kind.KEY_WRITE;
+                : isIfAbsent && argument != null && hasKey() ? Kind.KEY_READ : Kind.KEY_WRITE;
         if (kind == Kind.KEY_WRITE) Maps.write(me, kind, receiver, argument, site);
+    }
+    /** Asks the map or set without logging what methods of the program do for the answer: the program hasn't asked. */
+    private boolean hasKey() {
+        me.isQuiet = true;
+        try {
+            return Maps.hasKey(receiver, argument);
+        } finally {
+            me.isQuiet = false;
+        }
     }
     boolean isWithin() { return kind == Kind.KEY_WITHIN; }
     /** Within the call: the key is changed, or only looked at. */
