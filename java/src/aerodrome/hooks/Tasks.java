@@ -57,6 +57,11 @@ public final class Tasks {
     public static void refuses(Object task, Object pool) {
         if (Log.on && task != null) Pool.of(pool).remove(Numbers.of(task), false);
     }
+    /** The program, or a task that is cancelled, may take the task out of the pool. Returns whether it did. */
+    public static boolean removes(boolean isRemoved, Object task, Object pool) {
+        if (Log.on && isRemoved) Pool.of(pool).remove(Numbers.of(task), true);
+        return isRemoved;
+    }
     /** One that runs again and again was given once. */
     public static void takes(Object task, Object pool) {
         LoggedThread me = task == null ? null : LoggedThread.logging();

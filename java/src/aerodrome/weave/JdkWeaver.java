@@ -93,14 +93,14 @@ public final class JdkWeaver implements ClassFileTransformer {
         /** Calls the hooks that stand there. They are given `this`, arguments, or nothing. */
         private void call(JdkHook.Where where) {
             for (JdkHook one : hooks) {
-                if (one.where == where) call(one, "");
+                if (one.where == where) call(one, "", "V");
             }
         }
-        /** The hook gets what is on the stack, too, by its types. */
-        private void call(JdkHook hook, String onStack) {
+        /** The hook gets what is on the stack first, by its types, and gives a result of this type. */
+        private void call(JdkHook hook, String onStack, String gives) {
             for (String one : hook.given) mv.visitVarInsn(ALOAD, GIVEN.indexOf(one));
             String type = hook.hookOwner.endsWith("Threads") ? "Ljava/lang/Thread;" : "Ljava/lang/Object;";
-            String descriptor = "(" + onStack + type.repeat(hook.given.size()) + ")V";
+            String descriptor = "(" + onStack + type.repeat(hook.given.size()) + ")" + gives;
             mv.visitMethodInsn(INVOKESTATIC, hook.hookOwner, hook.hookName, descriptor, false);
         }
 
@@ -116,8 +116,7 @@ public final class JdkWeaver implements ClassFileTransformer {
             call(JdkHook.Where.EXIT);
             call(JdkHook.Where.ALWAYS);
             for (JdkHook one : hooks)
-                if (one.where == JdkHook.Where.RESULT)
-                    mv.visitMethodInsn(INVOKESTATIC, one.hookOwner, one.hookName, "(" + result + ")" + result, false);
+                if (one.where == JdkHook.Where.RESULT) call(one, result, result);
         }
 
         /** Before a task is run: the task. */
@@ -127,7 +126,7 @@ public final class JdkWeaver implements ClassFileTransformer {
                 if (one.where != JdkHook.Where.RUN || !owner.equals("java/lang/Runnable") || !name.equals("run")) continue;
                 one.isFound = true;
                 mv.visitInsn(DUP);
-                call(one, "Ljava/lang/Object;");
+                call(one, "Ljava/lang/Object;", "V");
             }
             boolean isSwap = owner.equals("java/lang/invoke/VarHandle") && name.equals("compareAndSet");
             if (isSwap) callFound(JdkHook.Where.SWAP);
