@@ -2,7 +2,7 @@
 #: make try TRACE=FILE        judges a log in two or three minutes, without a proof; without TRACE a lost update; needs rt too
 #: make logger                builds the logger for C, C++ and Rust programs; needs only gcc or clang, and binutils
 #: make go                    builds the logger for Go programs, for Go 1.19 on linux/amd64; needs only gcc or clang, and binutils
-#: make java                  builds the agent that logs Java programs; needs a JDK, ASM and jarjar (README.md names Debian's packages)
+#: make java                  builds the agent that logs Java programs; needs a JDK, ASM and jarjar (docs/install.md names Debian's packages)
 #: make library               proves and builds the library for C; needs rt and ar
 #: make install PREFIX=DIR    installs the program, scripts, logger, manual pages, pages for users and examples into DIR (default: /usr/local)
 #: make uninstall PREFIX=DIR  removes the files that make install put there, and the folders that it made, if they are empty
