@@ -11,8 +11,8 @@ import shutil
 from typing import NamedTuple
 
 NO_RT = (
-    "no command rt on the path. It belongs to the Rattle kit (docs/install.md says which versions work), which isn't "
-    "public: ask whoever gave you this source. Then put the kit's folder bin/ on your path. "
+    "no command rt on the path. It belongs to the Rattle kit, which isn't public: docs/install.md names its versions, and whom to ask. "
+    "Then put the kit's folder bin/ on your path. "
     "`make logger` and `make java` don't need it."
 )
 
