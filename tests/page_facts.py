@@ -151,7 +151,7 @@ def compare_completions(tally):
 
 # The name of a file of the repository. A name with a word in capitals is for any file, and a file that a build makes may not exist
 # yet.
-FILES = re.compile(r"(?<![\w/.<-])((?:crates|docs|tests|tools|bench|logger|java|include|examples|completions)/[\w.+*/-]*[\w*])")
+FILES = re.compile(r"(?<![\w/.<-])((?:crates|docs|tests|tools|bench|commands|packaging|logger|java|include|examples|completions)/[\w.+*/-]*[\w*])")
 FOR_ANY = re.compile(r"(?:^|[/_.])(?:[A-Z]{2,}|WHAT_\w+)(?:[/_.]|$)|/out(?:/|$)")
 
 
