@@ -4,7 +4,7 @@ import re
 
 TOP = os.path.dirname(os.path.dirname(os.path.abspath(__file__)))
 SCRIPTS = {it: f"commands/{it}" for it in ("aerodrome-merge", "aerodrome-refine", "aerodrome-page", "aerodrome-sarif")}
-BLOCK = re.compile(r"(?ms)^```([^\n]*)\n(.*?)^```$")
+BLOCK = re.compile(r"(?ms)^( *)```([^\n]*)\n(.*?)^\1```$")
 
 
 class Tally:
@@ -60,4 +60,4 @@ def blocks_of(page):
     if is_manual(page):
         found = re.findall(r"(?m)^(?:\.\\\" (not run: [^\n]+|no commands)\n)?\.nf\n\.RS\n(.*?)^\.RE\n\.fi", text, re.S)
         return [(f"text {mark}" if mark else "console", plain(block).split("\n")[:-1]) for mark, block in found]
-    return [(mark, block.split("\n")[:-1]) for mark, block in BLOCK.findall(text)]
+    return [(mark, [line.removeprefix(indent) for line in block.split("\n")[:-1]]) for indent, mark, block in BLOCK.findall(text)]
