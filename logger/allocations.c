@@ -139,15 +139,22 @@ static void *resized(void *(*real)(void *, size_t), void *old, size_t bytes, uin
     else if (bytes > room && of != WITHOUT_SIZES) renew_growth(at, room);
     return at;
 }
+/* Where the program has called reallocarray, which calls realloc, as the program may have one of its own; else 0. */
+static __thread volatile uintptr_t array_call;
 EXPORT void *realloc(void *old, size_t bytes) {
     if (UNLIKELY(is_first(old))) return moved_from_first(old, bytes);
     NEXT(void *, realloc, return old ? NULL : take_first(bytes), void *, size_t)
     if (!old || !bytes || LIKELY(!is_on())) return renewed(real(old, bytes), bytes);
-    return resized(real, old, bytes, HERE);
+    return resized(real, old, bytes, array_call ? array_call : HERE);
 }
 EXPORT void *reallocarray(void *old, size_t count, size_t bytes) {
     size_t all;
-    if (!__builtin_mul_overflow(count, bytes, &all)) return realloc(old, all);
-    errno = ENOMEM;
-    return NULL;
+    if (__builtin_mul_overflow(count, bytes, &all)) {
+        errno = ENOMEM;
+        return NULL;
+    }
+    array_call = HERE;
+    void *at = realloc(old, all);
+    array_call = 0;
+    return at;
 }
