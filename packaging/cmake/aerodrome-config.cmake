@@ -6,6 +6,7 @@
 # the log isn't atomic, the test fails, and prints the label of the block and its two places in the code. TARGET has to be compiled by
 # aerodrome-cc or aerodrome-c++. BLOCKS, SPLIT and STIR are the logger's settings AERODROME_BLOCKS, AERODROME_SPLIT and AERODROME_STIR.
 # A test that leaves no log, or begins no block, fails too, since nothing was checked. With MAY_CHECK_NOTHING it may begin no block.
+# Call it before gtest_discover_tests, which notes how the tests are to be run.
 get_filename_component(_aerodrome_prefix "${CMAKE_CURRENT_LIST_DIR}/../../.." ABSOLUTE)
 set(aerodrome_RUN_TEST "${CMAKE_CURRENT_LIST_DIR}/run-test")
 find_program(aerodrome_EXECUTABLE aerodrome HINTS "${_aerodrome_prefix}/bin" NO_DEFAULT_PATH)
@@ -22,6 +23,10 @@ function(aerodrome_test target)
     endif()
     if(asked_UNPARSED_ARGUMENTS OR asked_KEYWORDS_MISSING_VALUES)
         message(FATAL_ERROR "aerodrome_test: not understood: ${asked_UNPARSED_ARGUMENTS} ${asked_KEYWORDS_MISSING_VALUES}")
+    endif()
+    get_property(is_discovered TARGET "${target}" PROPERTY CTEST_DISCOVERED_TEST_COUNTER SET)
+    if(is_discovered)
+        message(FATAL_ERROR "aerodrome_test: call it before gtest_discover_tests(${target}), whose tests would run without a log otherwise")
     endif()
     set(launcher "${aerodrome_RUN_TEST}" "--checker=${aerodrome_EXECUTABLE}")
     foreach(setting BLOCKS SPLIT STIR)
