@@ -90,9 +90,10 @@ EXPORT void __assert_fail(const char *what, const char *file, unsigned line, con
 /* ---- signals that end the process, where the program has no handler for them */
 
 static const int deadly[] = {SIGHUP, SIGINT, SIGQUIT, SIGILL, SIGTRAP, SIGABRT, SIGBUS, SIGFPE, SIGUSR1, SIGSEGV, SIGUSR2, SIGPIPE,
-                             SIGALRM, SIGTERM, SIGXCPU, SIGXFSZ, SIGVTALRM, SIGPROF, SIGIO, SIGSYS};
+                             SIGALRM, SIGTERM, SIGSTKFLT, SIGXCPU, SIGXFSZ, SIGVTALRM, SIGPROF, SIGIO, SIGPWR, SIGSYS};
 
 bool aero_is_deadly(int signal) {
+    if (signal >= SIGRTMIN && signal <= SIGRTMAX) return true;
     for (size_t one = 0; one < sizeof deadly / sizeof *deadly; one++)
         if (deadly[one] == signal) return true;
     return false;
@@ -157,7 +158,8 @@ void aero_drop_signal_stack(void) {
 struct sigaction aero_at_the_end(void) {
     struct sigaction action = {.sa_sigaction = ends_by, .sa_flags = SA_SIGINFO | SA_RESETHAND | SA_NODEFER | SA_ONSTACK};
     sigfillset(&action.sa_mask);
-    for (size_t one = 0; one < sizeof deadly / sizeof *deadly; one++) sigdelset(&action.sa_mask, deadly[one]);
+    for (int signal = 1; signal <= SIGRTMAX; signal++)
+        if (aero_is_deadly(signal)) sigdelset(&action.sa_mask, signal);
     return action;
 }
 

@@ -7,6 +7,7 @@
  *                               no hook sees
  *   killed deep-thread          the same, but another thread calls itself
  *   killed abort, assert        it adds ten times, and then calls abort or fails an assertion; a handler of its own lets that pass
+ *   killed power, real-time     a signal comes that few programs know of
  *   killed by-default           its own handler of SIGTERM gives way to the default, and sends the signal again
  *   killed never, alone         two threads, or one, add until somebody ends it */
 #include <assert.h>
@@ -87,6 +88,8 @@ static void fail(const char *way) {
     if (!strcmp(way, "fault")) *(volatile int *)0 = 1;
     if (!strcmp(way, "abort")) abort();
     if (!strcmp(way, "assert")) assert(count == 0);
+    if (!strcmp(way, "power")) raise(SIGPWR);
+    if (!strcmp(way, "real-time")) raise(SIGRTMIN + 3);
     if (!strcmp(way, "deep")) never = (int)go_deep(1);
     if (!strcmp(way, "deep-thread")) pthread_create(&other, NULL, goes_deep, NULL), pthread_join(other, NULL);
     if (!strcmp(way, "by-default")) signal(SIGTERM, send_again), raise(SIGTERM);
