@@ -78,7 +78,7 @@ static const char *behind_constant(const char *at) {
     if (*at == 'N') at = behind_end(at + 1, false);
     else if (*at >= '1' && *at <= '9') at = behind_name(at, &from, &length);
     else if (*at == 'S') at = at[1] >= 'a' ? at + 2 : behind_line(at);
-    else at += *at == 'D' ? 2 : 1;
+    else if (*at) at += *at == 'D' && at[1] ? 2 : 1;
     return at ? behind_end(at + strspn(at, "n0123456789abcdef"), false) : NULL;
 }
 
@@ -116,7 +116,7 @@ static const char *behind_end(const char *at, bool is_expression) {
 }
 
 /* Puts a part of the path, and returns what is behind it in the symbol; NULL: it isn't understood. `last` is where the last name was
- * put, whose constructor may follow. */
+ * put, whose constructor may follow; behind that, and before the first name, its length is 0. */
 static const char *put_step(char **to, char **last, size_t *last_length, const char *at) {
     const char *from, *behind;
     size_t length;
@@ -127,13 +127,13 @@ static const char *put_step(char **to, char **last, size_t *last_length, const c
     }
     bool is_std = !strncmp(at, "St", 2), is_own = (*at == 'C' || *at == 'D') && at[1] >= '0' && at[1] <= '9';
     if (is_std) from = "std", length = 3, behind = at + 2;
-    else if (is_own && *last) from = *last, length = *last_length, behind = at + 2;
+    else if (is_own && *last_length) from = *last, length = *last_length, behind = at + 2;
     else behind = behind_name(at, &from, &length);
     if (!behind) return NULL;
     if (*last) *to = aero_put_text(*to, "::");
     if (is_own && *at == 'D') *(*to)++ = '~';
     *last = *to;
-    *last_length = length;
+    *last_length = is_own ? 0 : length;
     memcpy(*to, from, length);
     *to += length;
     return behind;
