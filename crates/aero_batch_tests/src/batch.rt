@@ -12,8 +12,8 @@ mod streams;
 mod verdicts;
 
 use crate::batch::habits::Habit;
-use crate::batch::runs::{Who, plan_by, run_by, run_planned};
-use crate::batch::streams::{BreaksOnce, CutsOnce, Either, Endless, Flushed, Later, Tells};
+use crate::batch::runs::{Who, plan_by, run_planned};
+use crate::batch::streams::{BreaksOnce, CutsOnce, Endless};
 use aero_batch::{Cause, Outcome};
 use aero_intake::{Plan, Source};
 use aero_model::{Counting, Ending, Limits};
@@ -22,7 +22,6 @@ use std::alloc::{AllocError, Global};
 use std::io::Read;
 use std::process::Abort;
 use std::sync::Wait;
-use std::sync::atomic::{AtomicBool, Ordering};
 use std::test::Fail;
 use std::thread::Threads;
 
@@ -30,11 +29,19 @@ static PIECES: [u32; 4] = [1, 2, 7, 65_536];
 
 static EVERYBODY: [Who; 4] = [Who::Alone, Who::Crew(1), Who::Crew(2), Who::Crew(16)];
 
-static OTHERS: [Who; 4] = [
+// All of these, and helpers with each habit by which the answers of a run stay the same.
+static ALL: [Who; 11] = [
+    Who::Alone,
     Who::Crew(1),
     Who::Crew(2),
     Who::Crew(16),
     Who::Helped(Habit::Newest),
+    Who::Helped(Habit::Twice),
+    Who::Helped(Habit::Forges),
+    Who::Helped(Habit::Misses),
+    Who::Helped(Habit::Babbles),
+    Who::Helped(Habit::Leaves),
+    Who::Helped(Habit::Refuses),
 ];
 
 // Two blocks that cross, each before the other.
@@ -63,10 +70,6 @@ const LARGE: &str = "n: too large/traces 1: serializable 0, open 0, violations 0
 const REPORT_OF_THREE: &str =
     "a: violation at line 6: block of T1 from line 1/b: serializable (0 events, 0 blocks)/c: violation at line 7: block of T2 from line 2/traces 3: serializable 1, open 0, violations 2, faults 0/";
 
-// What is written of the sources a and b, each with one block.
-const REPORT_OF_TWO: &str =
-    "a: serializable (5 events, 1 blocks)/b: serializable (5 events, 1 blocks)/traces 2: serializable 2, open 0, violations 0, faults 0/";
-
 // What is written of the sources a and b, each with the block that comes after a later event, and their orders.
 const ORDER_OF_TWO: &str =
     "a: serializable (4 events, 1 blocks)/  2 T2/  1 T1/b: serializable (4 events, 1 blocks)/  2 T2/  1 T1/traces 2: serializable 2, open 0, violations 0, faults 0/";
@@ -89,13 +92,6 @@ fn lines_of(alloc: Global, text: &str) -> Result<Vec<u8>, AllocError> {
     Ok(bytes)
 }
 
-// Both texts, one right after the other.
-fn texts_of_two(alloc: Global) -> Result<Vec<u8>, AllocError> {
-    let mut texts = lines_of(alloc, CROSSED)?;
-    texts.extend_from_slice(&lines_of(alloc, CLOSED_BY_AN_END)?)?;
-    Ok(texts)
-}
-
 fn limits_of(bytes: u32, lines: u32, threads: u32, names: u32) -> Result<Limits, Fail> {
     match Limits::new(bytes, lines, threads, names) {
         Some(limits) => Ok(limits),
@@ -111,17 +107,6 @@ fn source_of<R: Drop>(alloc: Global, name: &str, reader: R) -> Result<Source<R>,
     })
 }
 
-// One source more.
-fn add_source<'a>(
-    sources: &mut Vec<Source<&'a [u8]>>,
-    alloc: Global,
-    name: &str,
-    text: &'a [u8],
-) -> Result<(), AllocError> {
-    sources.push(source_of(alloc, name, text)?)?;
-    Ok(())
-}
-
 // Runs over one source with the name n, and expects that what is written begins so.
 fn expect_start<R: Read + Drop, T: Abort + AllocGlobal + Threads + Wait + Copy + Send + 'static>(
     rt: &T,
@@ -134,7 +119,8 @@ fn expect_start<R: Read + Drop, T: Abort + AllocGlobal + Threads + Wait + Copy +
     let mut sources = Vec::new(rt.alloc());
     sources.push(source_of(rt.alloc(), "n", reader)?)?;
     let mut writer = Counting::new(Vec::new(rt.alloc()));
-    let outcome = run_by(*rt, who, &mut sources, &mut writer, limits, piece)?;
+    let plan = plan_by(rt.alloc(), who, limits, piece, ("", false))?;
+    let outcome = run_planned(*rt, who, &mut sources, &mut writer, &plan)?;
     assert_eq!(rt; outcome.cause, None);
     let start = lines_of(rt.alloc(), start)?;
     assert!(rt; writer.into_inner().as_slice().starts_with(&start));
@@ -205,7 +191,7 @@ fn expect_limited<T: Abort + AllocGlobal + Threads + Wait + Copy + Send + 'stati
     for piece in PIECES.iter() {
         expect_start(rt, text.as_slice(), limits, *piece, Who::Alone, row.2)?;
     }
-    for who in OTHERS.iter() {
+    for who in ALL.iter() {
         expect_start(rt, text.as_slice(), limits, 7, *who, row.2)?;
     }
     Ok(())
@@ -266,14 +252,14 @@ fn a_source_ends_whole_too_large_or_broken(rt: HostRuntime) -> Result<(), Fail> 
     Ok(())
 }
 
-// Sources with these names and one text, where these labels are listed and the order is asked for or not, and a writer
+// Sources with these names and one text, where this label is listed, or none, and the order is asked for or not, and a writer
 // that fails at one call once it has taken so many bytes. What is written follows, how the sources ended whose lines it has whole, how many of
 // them are serializable, and why the run stopped.
 #[derive(Drop)]
 struct Row<'a> {
     names: &'a [&'a str],
     text: &'a str,
-    labels: &'a str,
+    label: &'a str,
     order: bool,
     room: usize,
     written: &'a str,
@@ -296,17 +282,20 @@ fn expect_row<T: Abort + AllocGlobal + Threads + Wait + Copy + Send + 'static>(
         taken: Vec::new(rt.alloc()),
         left: row.room,
         has_failed: false,
+        is_flushed: false,
     });
     let plan = plan_by(
         rt.alloc(),
         who,
         Limits::greatest(),
         piece,
-        (row.labels, row.order),
+        (row.label, row.order),
     )?;
     let outcome = run_planned(*rt, who, &mut sources, &mut writer, &plan)?;
     let written = lines_of(rt.alloc(), row.written)?;
-    assert_eq!(rt; writer.into_inner().taken, written);
+    let output = writer.into_inner();
+    assert_eq!(rt; output.taken, written);
+    assert!(rt; !output.is_flushed);
     assert_eq!(rt; outcome.endings.as_slice(), row.endings);
     assert_eq!(rt; outcome.counts.serializable, row.serializable);
     assert_eq!(rt; outcome.cause, row.cause);
@@ -319,7 +308,7 @@ static WRITTEN: [Row<'static>; 8] = [
     Row {
         names: &["n"],
         text: CROSSED,
-        labels: "",
+        label: "",
         order: false,
         room: 10,
         written: "n: violati",
@@ -330,7 +319,7 @@ static WRITTEN: [Row<'static>; 8] = [
     Row {
         names: &["a", "b"],
         text: "",
-        labels: "",
+        label: "",
         order: false,
         room: 40,
         written: "a: serializable (0 events, 0 blocks)/b: ",
@@ -341,7 +330,7 @@ static WRITTEN: [Row<'static>; 8] = [
     Row {
         names: &["a"],
         text: "",
-        labels: "",
+        label: "",
         order: false,
         room: 40,
         written: "a: serializable (0 events, 0 blocks)/tra",
@@ -352,7 +341,7 @@ static WRITTEN: [Row<'static>; 8] = [
     Row {
         names: &["n", "n"],
         text: ONE_BLOCK,
-        labels: "",
+        label: "",
         order: false,
         room: 1000,
         written: "n: serializable (5 events, 1 blocks)/n: serializable (5 events, 1 blocks)/traces 2: serializable 2, open 0, violations 0, faults 0/",
@@ -363,7 +352,7 @@ static WRITTEN: [Row<'static>; 8] = [
     Row {
         names: &["a", "b"],
         text: WRITTEN_BETWEEN,
-        labels: "",
+        label: "",
         order: true,
         room: 1000,
         written: ORDER_OF_TWO,
@@ -374,7 +363,7 @@ static WRITTEN: [Row<'static>; 8] = [
     Row {
         names: &["n"],
         text: OF_ONE_LABEL,
-        labels: "a",
+        label: "a",
         order: false,
         room: 1000,
         written: "n: no violation, 1 blocks open (6 events, 1 blocks)/traces 1: serializable 0, open 1, violations 0, faults 0/",
@@ -386,7 +375,7 @@ static WRITTEN: [Row<'static>; 8] = [
     Row {
         names: &["n"],
         text: WRITTEN_BETWEEN,
-        labels: "",
+        label: "",
         order: true,
         room: 41,
         written: "n: serializable (4 events, 1 blocks)/  2 ",
@@ -397,7 +386,7 @@ static WRITTEN: [Row<'static>; 8] = [
     Row {
         names: &[],
         text: "",
-        labels: "",
+        label: "",
         order: false,
         room: 1000,
         written: "traces 0: serializable 0, open 0, violations 0, faults 0/",
@@ -419,13 +408,15 @@ fn what_was_written_whole_is_told(rt: HostRuntime) -> Result<(), Fail> {
     Ok(())
 }
 
-// The sources a, b and c of the report of three.
-fn three_sources(texts: &[u8], alloc: Global) -> Result<Vec<Source<&[u8]>>, AllocError> {
-    let (crossed, closed) = texts.split_at(texts.len().min(CROSSED.len()));
+// The sources a, b and c of the report of three, of which these are the texts of a and c.
+fn three_sources<'a>(
+    (crossed, closed): (&'a [u8], &'a [u8]),
+    alloc: Global,
+) -> Result<Vec<Source<&'a [u8]>>, AllocError> {
     let mut sources = Vec::new(alloc);
-    add_source(&mut sources, alloc, "a", crossed)?;
-    add_source(&mut sources, alloc, "b", crossed.split_at(0).0)?;
-    add_source(&mut sources, alloc, "c", closed)?;
+    sources.push(source_of(alloc, "a", crossed)?)?;
+    sources.push(source_of(alloc, "b", b"".as_slice())?)?;
+    sources.push(source_of(alloc, "c", closed)?)?;
     Ok(sources)
 }
 
@@ -435,8 +426,9 @@ fn expect_three<T: Abort + AllocGlobal + Threads + Wait + Copy + Send + 'static>
     who: Who,
 ) -> Result<(), Fail> {
     let plan = plan_by(rt.alloc(), who, Limits::greatest(), 1, ("", false))?;
-    let texts = texts_of_two(rt.alloc())?;
-    let mut sources = three_sources(&texts, rt.alloc())?;
+    let crossed = lines_of(rt.alloc(), CROSSED)?;
+    let closed = lines_of(rt.alloc(), CLOSED_BY_AN_END)?;
+    let mut sources = three_sources((&crossed, &closed), rt.alloc())?;
     let (report, outcome) = report_by(rt, who, &mut sources, &plan)?;
     assert_eq!(rt; report, lines_of(rt.alloc(), REPORT_OF_THREE)?);
     assert_eq!(rt; outcome.cause, None);
@@ -452,25 +444,10 @@ fn expect_three<T: Abort + AllocGlobal + Threads + Wait + Copy + Send + 'static>
     Ok(())
 }
 
-static HABITS: [Habit; 7] = [
-    Habit::Newest,
-    Habit::Twice,
-    Habit::Forges,
-    Habit::Misses,
-    Habit::Babbles,
-    Habit::Leaves,
-    Habit::Refuses,
-];
-
 #[test]
 fn the_report_is_the_same_whoever_helps(rt: HostRuntime) -> Result<(), Fail> {
     let text = lines_of(rt.alloc(), WRITTEN_BETWEEN)?;
-    for habit in HABITS.iter() {
-        expect_three(&rt, Who::Helped(*habit))?;
-        assert!(rt; has_order_of_two(&rt, &text, Who::Helped(*habit))?);
-        assert!(rt; are_crossed_told(&rt, Who::Helped(*habit))?);
-    }
-    for who in EVERYBODY.iter() {
+    for who in ALL.iter() {
         expect_three(&rt, *who)?;
         assert!(rt; has_order_of_two(&rt, &text, *who)?);
         assert!(rt; are_crossed_told(&rt, *who)?);
@@ -492,30 +469,6 @@ fn a_question_is_given_up_after_1024_useless_replies(rt: HostRuntime) -> Result<
             (outcome.tally.kept, outcome.tally.done_here),
             (kept, done_here)
         );
-    }
-    Ok(())
-}
-
-// Whether three sources have their report, of which nothing was flushed.
-fn is_unflushed<T: AllocGlobal + Threads + Wait + Copy + Send + 'static>(
-    rt: &T,
-    who: Who,
-) -> Result<bool, Fail> {
-    let texts = texts_of_two(rt.alloc())?;
-    let mut sources = three_sources(&texts, rt.alloc())?;
-    let mut writer = Counting::new(Flushed {
-        taken: Vec::new(rt.alloc()),
-        times: 0,
-    });
-    run_by(*rt, who, &mut sources, &mut writer, Limits::greatest(), 7)?;
-    let written = writer.into_inner();
-    Ok(written.times == 0 && written.taken == lines_of(rt.alloc(), REPORT_OF_THREE)?)
-}
-
-#[test]
-fn a_run_flushes_nothing(rt: HostRuntime) -> Result<(), Fail> {
-    for who in [Who::Alone, Who::Crew(2), Who::Helped(Habit::Newest)] {
-        assert!(rt; is_unflushed(&rt, who)?);
     }
     Ok(())
 }
@@ -552,64 +505,8 @@ fn is_told_of_two<T: AllocGlobal + Threads + Wait + Copy + Send + 'static>(
     plan: &Plan,
 ) -> Result<bool, Fail> {
     let mut sources = Vec::new(rt.alloc());
-    add_source(&mut sources, rt.alloc(), "a", text)?;
-    add_source(&mut sources, rt.alloc(), "b", text)?;
+    sources.push(source_of(rt.alloc(), "a", text)?)?;
+    sources.push(source_of(rt.alloc(), "b", text)?)?;
     let (report, outcome) = report_by(rt, who, &mut sources, plan)?;
     Ok(outcome.cause.is_none() && report == lines_of(rt.alloc(), wanted)?)
-}
-
-// What is written of two sources of which the second gives its text once the first is told: until then it gives so many
-// spaces. Fails where they run out.
-fn told_before_the_next<T: AllocGlobal + Threads + Wait + Copy + Send + 'static>(
-    rt: &T,
-    text: &[u8],
-    (who, spaces): (Who, u32),
-) -> Result<Vec<u8>, Fail> {
-    let is_told = AtomicBool::new(false);
-    let have_run_out = AtomicBool::new(false);
-    let later = Later {
-        text,
-        spaces,
-        is_told: &is_told,
-        have_run_out: &have_run_out,
-    };
-    let mut sources = [
-        source_of(rt.alloc(), "a", Either::AtOnce(text))?,
-        source_of(rt.alloc(), "b", Either::Later(later))?,
-    ];
-    let mut writer = Counting::new(Tells {
-        taken: Vec::new(rt.alloc()),
-        is_told: &is_told,
-    });
-    run_by(
-        *rt,
-        who,
-        &mut sources,
-        &mut writer,
-        Limits::greatest(),
-        65_536,
-    )?;
-    if have_run_out.load(Ordering::SeqCst) {
-        return Err("the second source ran out of spaces before the first was told".into());
-    }
-    Ok(writer.into_inner().taken)
-}
-
-// Where a crew answers, the second source may be read before it has: the line is told between two of its reads.
-static NEXT: [(Who, u32); 5] = [
-    (Who::Alone, 0),
-    (Who::Helped(Habit::Twice), 0),
-    (Who::Crew(1), 4_000),
-    (Who::Crew(2), 4_000),
-    (Who::Crew(16), 4_000),
-];
-
-#[test]
-fn a_verdict_that_has_come_is_told_before_the_next_read(rt: HostRuntime) -> Result<(), Fail> {
-    let text = lines_of(rt.alloc(), ONE_BLOCK)?;
-    let written = lines_of(rt.alloc(), REPORT_OF_TWO)?;
-    for row in NEXT.iter() {
-        assert_eq!(rt; told_before_the_next(&rt, &text, *row)?, written);
-    }
-    Ok(())
 }

@@ -6,5 +6,3 @@
 
 #[cfg(test)]
 mod batch;
-#[cfg(test)]
-mod except;

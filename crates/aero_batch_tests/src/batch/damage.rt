@@ -1,6 +1,6 @@
 // A text that is cut anywhere, reads and writes that fail at each call in turn, and a reader without an
 // end. What is expected stands in the rows, and doesn't hang on who helps: all is done alone.
-use crate::batch::runs::{Who, run_by};
+use crate::batch::runs::{Who, plan_by, run_planned};
 use crate::batch::streams::{BreaksOnce, Endless, TakesBytes};
 use crate::batch::{LARGE, ONE_BLOCK, expect_end, limits_of, lines_of, source_of};
 use aero_batch::outcome::{Cause, Outcome};
@@ -104,14 +104,8 @@ fn run_cut<T: Abort + AllocGlobal + Threads + Wait + Copy + Send + 'static>(
         left,
         takes_nothing,
     });
-    let outcome = run_by(
-        *rt,
-        Who::Alone,
-        &mut sources,
-        &mut writer,
-        Limits::greatest(),
-        7,
-    )?;
+    let plan = plan_by(rt.alloc(), Who::Alone, Limits::greatest(), 7, ("", false))?;
+    let outcome = run_planned(*rt, Who::Alone, &mut sources, &mut writer, &plan)?;
     Ok((outcome, writer.into_inner().taken))
 }
 

@@ -1,7 +1,8 @@
 // Runs with a crew, under gates.
-use crate::batch::runs::run_gated;
-use crate::batch::{CROSSED, REPORT_OF_THREE, add_source, lines_of, texts_of_two, three_sources};
-use crate::except::listed;
+use crate::batch::runs::{Who, plan_by, run_gated};
+use crate::batch::{
+    CLOSED_BY_AN_END, CROSSED, REPORT_OF_THREE, lines_of, source_of, three_sources,
+};
 use aero_batch::outcome::Outcome;
 use aero_intake::plan::Plan;
 use aero_intake::source::Source;
@@ -10,7 +11,6 @@ use aero_model::limits::Limits;
 use aero_pieces::answer::Answer;
 use aero_pieces::question::Question;
 use aero_worker::Gate;
-use std::alloc::Global;
 use std::process::Abort;
 use std::sync::atomic::{AtomicBool, AtomicU64, Ordering};
 use std::sync::{Arc, Wait};
@@ -19,11 +19,6 @@ use std::thread;
 use std::thread::Threads;
 
 const TURNS: u32 = 20_000_000;
-
-// How the waits in a gate ended: all in time, or one of them in vain.
-const IN_TIME: &str = "in time";
-
-const TOO_LATE: &str = "the other worker didn't come within 20,000,000 turns";
 
 // Where a gate waits for others.
 #[derive(Drop)]
@@ -55,14 +50,9 @@ impl Meeting {
         self.is_late.store(true, Ordering::SeqCst);
     }
 
-    // Whether so many came at least, and how the waits for them ended.
-    fn was_met(&self, count: u64) -> (bool, &'static str) {
-        let waited = if self.is_late.load(Ordering::SeqCst) {
-            TOO_LATE
-        } else {
-            IN_TIME
-        };
-        (self.count.load(Ordering::SeqCst) >= count, waited)
+    // Whether so many came at least, and no wait for them was in vain.
+    fn was_met(&self, count: u64) -> bool {
+        self.count.load(Ordering::SeqCst) >= count && !self.is_late.load(Ordering::SeqCst)
     }
 }
 
@@ -92,41 +82,46 @@ impl Gate for SecondFirst {
     }
 }
 
-// Each of the first two waits until the other has entered, before a question or after its answer.
+// When the first two who come wait for each other.
+#[derive(Clone, Copy, PartialEq, Eq)]
+enum Moment {
+    // Before a question.
+    Before,
+    // Before a question on a verdict.
+    BeforeVerdict,
+    // After an answer.
+    After,
+}
+
+// Each of the first two waits until the other has entered.
 #[derive(Drop)]
 struct TwoAtOnce {
-    is_after: bool,
+    moment: Moment,
     meeting: Meeting,
 }
 
+impl TwoAtOnce {
+    fn meet(&self) {
+        self.meeting.enter();
+        self.meeting.wait_for(2);
+    }
+}
+
 impl Gate for TwoAtOnce {
-    fn before(&self, _question: &Question) {
-        if !self.is_after {
-            self.meeting.enter();
-            self.meeting.wait_for(2);
+    fn before(&self, question: &Question) {
+        let is_met_here = match question {
+            Question::Parse { .. } => self.moment == Moment::Before,
+            Question::Check { .. } => self.moment != Moment::After,
+        };
+        if is_met_here {
+            self.meet();
         }
     }
 
     fn after(&self, _answer: &Answer) {
-        if self.is_after {
-            self.meeting.enter();
-            self.meeting.wait_for(2);
+        if self.moment == Moment::After {
+            self.meet();
         }
-    }
-}
-
-fn plan_with(alloc: Global, workers: u32, piece: u32) -> Result<Plan, Fail> {
-    let except = listed(alloc, "").ok_or("labels")?;
-    match Plan::new(workers, piece, Limits::greatest(), except, false) {
-        Some(plan) => Ok(plan),
-        None => Err("no such plan".into()),
-    }
-}
-
-fn ran(outcome: Option<Outcome>) -> Result<Outcome, Fail> {
-    match outcome {
-        Some(outcome) => Ok(outcome),
-        None => Err("the crew was not closed".into()),
     }
 }
 
@@ -138,7 +133,7 @@ fn report_under<G: Gate + Drop + 'static, T: AllocGlobal + Threads + Wait + Copy
     plan: &Plan,
 ) -> Result<(Vec<u8>, Outcome), Fail> {
     let mut writer = Counting::new(Vec::new(rt.alloc()));
-    let outcome = ran(run_gated(rt, sources, &mut writer, plan, gate))?;
+    let outcome = run_gated(rt, sources, &mut writer, plan, gate).ok_or("a crew not closed")?;
     Ok((writer.into_inner(), outcome))
 }
 
@@ -148,9 +143,16 @@ fn has_report_of_three<T: AllocGlobal + Threads + Wait + Copy + Send + 'static>(
     gate: Arc<SecondFirst>,
     workers: u32,
 ) -> Result<bool, Fail> {
-    let plan = plan_with(rt.alloc(), workers, 7)?;
-    let texts = texts_of_two(rt.alloc())?;
-    let mut sources = three_sources(&texts, rt.alloc())?;
+    let plan = plan_by(
+        rt.alloc(),
+        Who::Crew(workers),
+        Limits::greatest(),
+        7,
+        ("", false),
+    )?;
+    let crossed = lines_of(rt.alloc(), CROSSED)?;
+    let closed = lines_of(rt.alloc(), CLOSED_BY_AN_END)?;
+    let mut sources = three_sources((&crossed, &closed), rt.alloc())?;
     let (report, outcome) = report_under(rt, gate, &mut sources, &plan)?;
     let is_told = report == lines_of(rt.alloc(), REPORT_OF_THREE)?;
     Ok(is_told && outcome.cause.is_none() && outcome.tally.done_here == 0)
@@ -164,20 +166,26 @@ fn expect_second_first<T: Abort + AllocGlobal + Threads + Wait + Copy + Send + '
     let meeting = nobody_yet();
     let gate = Arc::new(rt.alloc(), SecondFirst { meeting })?;
     assert!(rt; has_report_of_three(rt, Arc::try_clone(&gate)?, workers)?);
-    assert_eq!(rt; gate.meeting.was_met(1), (true, IN_TIME));
+    assert!(rt; gate.meeting.was_met(1));
     Ok(())
 }
 
-// How many violations two sources have under this gate, and how many answers were worked out by the run itself.
+// How many violations two sources that never wait have under this gate, and how many answers were worked out by the run itself.
 fn violations_under<T: AllocGlobal + Threads + Wait + Copy + Send + 'static>(
     rt: T,
     gate: Arc<TwoAtOnce>,
 ) -> Result<(u64, u64), Fail> {
-    let plan = plan_with(rt.alloc(), 2, 65_536)?;
+    let plan = plan_by(
+        rt.alloc(),
+        Who::Crew(2),
+        Limits::greatest(),
+        65_536,
+        ("", false),
+    )?;
     let crossed = lines_of(rt.alloc(), CROSSED)?;
     let mut sources = Vec::new(rt.alloc());
-    add_source(&mut sources, rt.alloc(), "n", &crossed)?;
-    add_source(&mut sources, rt.alloc(), "n", &crossed)?;
+    sources.push(source_of(rt.alloc(), "n", crossed.as_slice())?)?;
+    sources.push(source_of(rt.alloc(), "n", crossed.as_slice())?)?;
     let (_, outcome) = report_under(rt, gate, &mut sources, &plan)?;
     Ok((outcome.counts.violations, outcome.tally.done_here))
 }
@@ -185,12 +193,12 @@ fn violations_under<T: AllocGlobal + Threads + Wait + Copy + Send + 'static>(
 // Two sources, by two workers that meet in the gate.
 fn expect_two_at_once<T: Abort + AllocGlobal + Threads + Wait + Copy + Send + 'static>(
     rt: T,
-    is_after: bool,
+    moment: Moment,
 ) -> Result<(), Fail> {
     let meeting = nobody_yet();
-    let gate = Arc::new(rt.alloc(), TwoAtOnce { is_after, meeting })?;
+    let gate = Arc::new(rt.alloc(), TwoAtOnce { moment, meeting })?;
     assert_eq!(rt; violations_under(rt, Arc::try_clone(&gate)?)?, (2, 0));
-    assert_eq!(rt; gate.meeting.was_met(2), (true, IN_TIME));
+    assert!(rt; gate.meeting.was_met(2));
     Ok(())
 }
 
@@ -198,51 +206,12 @@ fn expect_two_at_once<T: Abort + AllocGlobal + Threads + Wait + Copy + Send + 's
 fn workers_answer_in_another_order_and_at_once(rt: HostRuntime) -> Result<(), Fail> {
     expect_second_first(rt, 2)?;
     expect_second_first(rt, 16)?;
-    expect_two_at_once(rt, false)?;
-    expect_two_at_once(rt, true)
-}
-
-// Each of the first two verdicts waits until the other is begun.
-#[derive(Drop)]
-struct TwoVerdicts {
-    meeting: Meeting,
-}
-
-impl Gate for TwoVerdicts {
-    fn before(&self, question: &Question) {
-        match question {
-            Question::Check { .. } => {
-                self.meeting.enter();
-                self.meeting.wait_for(2);
-            }
-            Question::Parse { .. } => {}
-        }
-    }
-
-    fn after(&self, _answer: &Answer) {}
-}
-
-// How many of two sources that never wait are violations, and how many questions on them were answered by the run itself.
-fn two_verdicts_under<T: AllocGlobal + Threads + Wait + Copy + Send + 'static>(
-    rt: T,
-    gate: Arc<TwoVerdicts>,
-) -> Result<(u64, u64), Fail> {
-    let plan = plan_with(rt.alloc(), 2, 65_536)?;
-    let crossed = lines_of(rt.alloc(), CROSSED)?;
-    let mut sources = Vec::new(rt.alloc());
-    add_source(&mut sources, rt.alloc(), "n", &crossed)?;
-    add_source(&mut sources, rt.alloc(), "m", &crossed)?;
-    let mut writer = Counting::new(Vec::new(rt.alloc()));
-    let outcome = ran(run_gated(rt, &mut sources, &mut writer, &plan, gate))?;
-    Ok((outcome.counts.violations, outcome.tally.done_here))
+    expect_two_at_once(rt, Moment::Before)?;
+    expect_two_at_once(rt, Moment::After)
 }
 
 // The second source is read and asked about while the verdict on the first is worked out, where none may wait.
 #[test]
 fn two_sources_are_judged_at_once(rt: HostRuntime) -> Result<(), Fail> {
-    let meeting = nobody_yet();
-    let gate = Arc::new(rt.alloc(), TwoVerdicts { meeting })?;
-    assert_eq!(rt; two_verdicts_under(rt, Arc::try_clone(&gate)?)?, (2, 0));
-    assert_eq!(rt; gate.meeting.was_met(2), (true, IN_TIME));
-    Ok(())
+    expect_two_at_once(rt, Moment::BeforeVerdict)
 }

@@ -1,7 +1,7 @@
 // Long sources, of which 262,144 bytes are gathered for a block: what is asked about them, and what is written.
 use crate::batch::habits::Habit;
 use crate::batch::runs::Who;
-use crate::batch::streams::{BreaksOnce, Short};
+use crate::batch::streams::BreaksOnce;
 use crate::batch::{LARGE, expect_start, limits_of};
 use aero_model::limits::Limits;
 use std::alloc::{AllocError, Global};
@@ -11,7 +11,7 @@ use std::test::Fail;
 use std::thread::Threads;
 
 // A line of so many bytes, its byte 10 counted, that begins so.
-pub(crate) fn long_line(alloc: Global, start: &[u8], bytes: usize) -> Result<Vec<u8>, AllocError> {
+fn long_line(alloc: Global, start: &[u8], bytes: usize) -> Result<Vec<u8>, AllocError> {
     let mut line = start.to_vec(alloc)?;
     line.resize(bytes.saturating_sub(1), b'a')?;
     line.push(b'\n')?;
@@ -33,27 +33,21 @@ fn long_text(
     Ok(text)
 }
 
-// Whether a run over a text, whose reader gives so many bytes at a read at most and fails once after so many in all,
-// asks as many questions as it should, the least and the most, and writes what begins so.
+// Whether a run over a text, whose reader fails once after so many bytes, asks so many questions, and writes what begins so.
 fn asks<T: Abort + AllocGlobal + Threads + Wait + Copy + Send + 'static>(
     rt: &T,
-    text: &[u8],
-    (most_a_read, left): (usize, usize),
+    (text, left): (&[u8], usize),
     limits: Limits,
-    (piece, who): (u32, Who),
-    start: &str,
-    (least, most): (u64, u64),
+    who: Who,
+    (start, asked): (&str, u64),
 ) -> Result<bool, Fail> {
-    let reader = Short {
-        reader: BreaksOnce {
-            text,
-            left,
-            has_failed: false,
-        },
-        most: most_a_read,
+    let reader = BreaksOnce {
+        text,
+        left,
+        has_failed: false,
     };
-    let outcome = expect_start(rt, reader, limits, piece, who, start)?;
-    Ok(least <= outcome.tally.asked && outcome.tally.asked <= most)
+    let outcome = expect_start(rt, reader, limits, 65_536, who, start)?;
+    Ok(outcome.tally.asked == asked)
 }
 
 const NEVER: usize = 1_000_000_000;
@@ -103,61 +97,7 @@ fn no_block_is_asked_about_after_a_fault(rt: HostRuntime) -> Result<(), Fail> {
     for (is_faulty, left, limits, start, asked) in rows {
         let text = if is_faulty { &faulty } else { &sound };
         for who in [Who::Alone, Who::Helped(Habit::Twice)] {
-            let by = (65_536, who);
-            assert!(rt; asks(&rt, text, (NEVER, left), limits, by, start, (asked, asked))?);
-        }
-    }
-    Ok(())
-}
-
-// At most 64 questions are open when a fault is found, whoever answers and however late, and each that was settled before
-// made room for one. A text has 70 blocks.
-#[test]
-fn few_blocks_are_asked_about_before_a_fault_is_found(rt: HostRuntime) -> Result<(), Fail> {
-    let faulty = long_text(rt.alloc(), (4_480, 4_096), 1)?;
-    let start = "n:1: malformed: BadParenthesis/traces 1: ";
-    for who in [Who::Crew(1), Who::Crew(16), Who::Helped(Habit::Leaves)] {
-        let by = (1_048_576, who);
-        assert!(rt;
-            asks(
-                &rt,
-                &faulty,
-                (262_144, NEVER),
-                Limits::greatest(),
-                by,
-                start,
-                (2, 65)
-            )?
-        );
-    }
-    Ok(())
-}
-
-// A text of 150 lines of 4,000 bytes. The first 262,144 bytes have 65 of them and 2,144 bytes of the next, the next
-// 262,144 with these have 66 and 288 bytes, and the rest has 19: so there are three blocks, however short the reads
-// are, and a question on each and on the whole. The line of the fault is in the second, after which the third isn't asked
-// about if that is known by then. Where the source breaks, what came of the second is asked about, and no verdict. A read of
-// more than 262,144 bytes is cut whole.
-#[test]
-fn a_long_source_has_few_blocks(rt: HostRuntime) -> Result<(), Fail> {
-    let sound = long_text(rt.alloc(), (150, 4_000), 0)?;
-    let faulty = long_text(rt.alloc(), (150, 4_000), 100)?;
-    let whole = "n: serializable (150 events, 0 blocks)/traces 1: ";
-    let fault = "n:100: malformed: BadParenthesis/traces 1: ";
-    let broken = "n: broken after 300000 bytes/traces 1: ";
-    let rows = [
-        (false, 1_000, (NEVER, NEVER), whole, (4, 4)),
-        (false, 65_536, (999, NEVER), whole, (4, 4)),
-        (false, 65_536, (NEVER, NEVER), whole, (4, 4)),
-        (false, 1_048_576, (NEVER, NEVER), whole, (2, 2)),
-        (true, 1_000, (NEVER, NEVER), fault, (3, 4)),
-        (false, 1_000, (NEVER, 300_000), broken, (2, 2)),
-    ];
-    for (is_faulty, piece, reads, start, asked) in rows {
-        let text = if is_faulty { &faulty } else { &sound };
-        let greatest = Limits::greatest();
-        for who in [Who::Alone, Who::Crew(2), Who::Helped(Habit::Newest)] {
-            assert!(rt; asks(&rt, text, reads, greatest, (piece, who), start, asked)?);
+            assert!(rt; asks(&rt, (text, left), limits, who, (start, asked))?);
         }
     }
     Ok(())

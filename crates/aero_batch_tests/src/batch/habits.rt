@@ -25,6 +25,10 @@ pub(crate) enum Habit {
     Leaves,
     // Takes no job.
     Refuses,
+    // Answers at once, but questions on blocks when they are awaited, the oldest first.
+    LateBlocks,
+    // Answers at once, but questions on verdicts when they are awaited, the newest first.
+    LateVerdicts,
 }
 
 // Two helpers with this habit.
@@ -33,9 +37,15 @@ pub(crate) struct Helper {
     alloc: Global,
     habit: Habit,
     jobs: Vec<Job>,
+    // The jobs that are answered at once, where others are late.
+    early: Vec<Job>,
     next: Vec<Reply>,
     // How often the answer that nobody wants was given since the last one to a job.
     chatted: u32,
+    // How many late answers they owed at once, at most.
+    pub(crate) held: usize,
+    // How many questions they were given to free.
+    pub(crate) freed: usize,
     pub(crate) has_refused: bool,
     pub(crate) was_awaited: bool,
 }
@@ -45,8 +55,11 @@ pub(crate) fn helper_with(alloc: Global, habit: Habit) -> Helper {
         alloc,
         habit,
         jobs: Vec::new(alloc),
+        early: Vec::new(alloc),
         next: Vec::new(alloc),
         chatted: 0,
+        held: 0,
+        freed: 0,
         has_refused: false,
         was_awaited: false,
     }
@@ -79,12 +92,27 @@ fn other_answer(alloc: Global, trace: u64, number: u64) -> Result<Reply, AllocEr
     Ok(Reply::Done(Question::answer(&other, alloc)?))
 }
 
+// Whether who has this habit answers the question at once, and another kind late.
+fn is_early(habit: Habit, question: &Question) -> bool {
+    match question {
+        Question::Parse { .. } => habit == Habit::LateVerdicts,
+        Question::Check { .. } => habit == Habit::LateBlocks,
+    }
+}
+
 impl Helper {
     fn take(&mut self) -> Option<Job> {
-        if self.habit == Habit::Newest || self.jobs.is_empty() {
+        let is_newest_first = matches!(self.habit, Habit::Newest | Habit::LateVerdicts);
+        if is_newest_first || self.jobs.is_empty() {
             return self.jobs.pop();
         }
         Some(self.jobs.remove(0))
+    }
+
+    // The answer to a job that isn't late, if there is one.
+    fn early_answer(&mut self) -> Option<Reply> {
+        let job = self.early.pop()?;
+        Some(answer(self.alloc, &job))
     }
 
     fn reply(&mut self, job: &Job) -> Result<Reply, AllocError> {
@@ -97,8 +125,7 @@ impl Helper {
                 }
             }
             Habit::Misses => return Ok(Reply::Missed(job.number)),
-            Habit::Newest | Habit::Babbles | Habit::Chatters(_) | Habit::Leaves | Habit::Refuses =>
-                {}
+            _ => {}
         }
         Ok(answer(self.alloc, job))
     }
@@ -116,7 +143,12 @@ impl Helpers for Helper {
             self.has_refused = true;
             return Err(Full { job });
         }
-        match self.jobs.push(job) {
+        let pushed = if is_early(self.habit, &job.question) {
+            self.early.push(job)
+        } else {
+            self.jobs.push(job)
+        };
+        match pushed {
             Ok(()) => Ok(()),
             Err(refused) => Err(Full { job: refused.value }),
         }
@@ -137,6 +169,10 @@ impl Helpers for Helper {
         if let Some(reply) = self.next.pop() {
             return Some(reply);
         }
+        if let Some(reply) = self.early_answer() {
+            return Some(reply);
+        }
+        self.held = self.held.max(self.jobs.len());
         let job = self.take()?;
         match self.reply(&job) {
             Ok(reply) => Some(reply),
@@ -144,13 +180,16 @@ impl Helpers for Helper {
         }
     }
 
-    // Who gives each answer twice, none or a strange one does so at once, and the others when they are awaited.
+    // Who gives each answer twice, none or a strange one does so at once, and the others when they are awaited, but for
+    // the answers that aren't late.
     fn ready_answer<R: Wait>(&mut self, rt: &R) -> Option<Reply> {
         match self.habit {
             Habit::Twice | Habit::Misses | Habit::Babbles => self.next_answer(rt),
-            _ => None,
+            _ => self.early_answer(),
         }
     }
 
-    fn let_go<R: Wait>(&mut self, _rt: &R, _question: Arc<Question>) {}
+    fn let_go<R: Wait>(&mut self, _rt: &R, _question: Arc<Question>) {
+        self.freed = self.freed.saturating_add(1);
+    }
 }

@@ -1,6 +1,5 @@
 // Runs by whoever it is. The callers need nothing of what a run promises.
 use crate::batch::habits::{Habit, helper_with};
-use crate::except::listed;
 use aero_batch::helpers::Nobody;
 use aero_batch::outcome::Outcome;
 use aero_batch::run::{run, run_over};
@@ -8,7 +7,8 @@ use aero_intake::plan::Plan;
 use aero_intake::source::Source;
 use aero_model::counting::Counting;
 use aero_model::limits::Limits;
-use aero_worker::{Gate, NoGate};
+use aero_model::{Except, Name, SharedExcept};
+use aero_worker::{Gate, Helpers, NoGate};
 use std::alloc::Global;
 use std::io::{Read, Write};
 use std::sync::{Arc, Wait};
@@ -26,40 +26,35 @@ pub(crate) enum Who {
     Crew(u32),
 }
 
-// Runs over at most nine sources, or 30 with a crew, with no label listed, and asks for no order.
-pub(crate) fn run_by<R: Read, W: Write, T: AllocGlobal + Threads + Wait + Copy + Send + 'static>(
-    rt: T,
-    who: Who,
-    sources: &mut [Source<R>],
-    writer: &mut Counting<W>,
-    limits: Limits,
-    piece: u32,
-) -> Result<Outcome, Fail> {
-    let plan = plan_by(rt.alloc(), who, limits, piece, ("", false))?;
-    run_planned(rt, who, sources, writer, &plan)
+// The list of this label, or of none where it is empty. `None` where memory is refused.
+fn listed(alloc: Global, label: &str) -> Option<SharedExcept> {
+    let mut names = Vec::new(alloc);
+    if !label.is_empty() {
+        names.push(Name::read(alloc, label.as_bytes()).ok()?).ok()?;
+    }
+    SharedExcept::new(alloc, Except::new(names)?).ok()
 }
 
-// The plan of a run by these, where these labels are listed, between which a space stands, and the order
-// is asked for or not.
+// The plan of a run by these, where this label is listed, or none, and the order is asked for or not.
 pub(crate) fn plan_by(
     alloc: Global,
     who: Who,
     limits: Limits,
     piece: u32,
-    (labels, order): (&str, bool),
+    (label, order): (&str, bool),
 ) -> Result<Plan, Fail> {
     let workers = match who {
         Who::Crew(workers) => workers,
         Who::Alone | Who::Helped(_) => 1,
     };
-    let except = listed(alloc, labels).ok_or("labels")?;
+    let except = listed(alloc, label).ok_or("the label")?;
     match Plan::new(workers, piece, limits, except, order) {
         Some(plan) => Ok(plan),
         None => Err("no such plan".into()),
     }
 }
 
-// Runs by this plan. Whoever answers is counted, and has answered as much as was to be expected.
+// Runs by this plan over at most nine sources, or 30 with a crew. Whoever answers is counted, and has answered as much as was to be expected.
 pub(crate) fn run_planned<
     R: Read,
     W: Write,
@@ -72,7 +67,7 @@ pub(crate) fn run_planned<
     plan: &Plan,
 ) -> Result<Outcome, Fail> {
     let (outcome, workers) = match who {
-        Who::Alone => (run_alone(&rt, sources, writer, plan), 0),
+        Who::Alone => (run_few(&rt, sources, writer, plan, &mut Nobody), 0),
         Who::Helped(habit) => (run_helped(&rt, sources, writer, plan, habit), 2),
         Who::Crew(workers) => {
             let gate = Arc::new(rt.alloc(), NoGate)?;
@@ -99,16 +94,18 @@ fn is_by(outcome: &Outcome, who: Who) -> bool {
     }
 }
 
-fn run_alone<R: Read, W: Write, T: AllocGlobal + Wait>(
+// Runs over at most nine sources.
+pub(crate) fn run_few<R: Read, W: Write, H: Helpers, T: AllocGlobal + Wait>(
     rt: &T,
     sources: &mut [Source<R>],
     writer: &mut Counting<W>,
     plan: &Plan,
+    helpers: &mut H,
 ) -> Option<Outcome> {
     if sources.len() > 9 {
         return None;
     }
-    Some(run_over(rt, rt.alloc(), sources, writer, plan, &mut Nobody))
+    Some(run_over(rt, rt.alloc(), sources, writer, plan, helpers))
 }
 
 // `None` also where an answer was awaited of helpers that took no job.
@@ -119,11 +116,8 @@ fn run_helped<R: Read, W: Write, T: AllocGlobal + Wait>(
     plan: &Plan,
     habit: Habit,
 ) -> Option<Outcome> {
-    if sources.len() > 9 {
-        return None;
-    }
     let mut helper = helper_with(rt.alloc(), habit);
-    let outcome = run_over(rt, rt.alloc(), sources, writer, plan, &mut helper);
+    let outcome = run_few(rt, sources, writer, plan, &mut helper)?;
     if helper.has_refused && helper.was_awaited {
         return None;
     }
