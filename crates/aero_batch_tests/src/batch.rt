@@ -44,6 +44,13 @@ static ALL: [Who; 11] = [
     Who::Helped(Habit::Refuses),
 ];
 
+static OTHERS: [Who; 4] = [
+    Who::Crew(1),
+    Who::Crew(2),
+    Who::Crew(16),
+    Who::Helped(Habit::Newest),
+];
+
 // Two blocks that cross, each before the other.
 const CROSSED: &str = "T1|begin/T2|begin/T1|w(x)/T2|r(x)/T2|w(y)/T1|r(y)";
 
@@ -191,7 +198,7 @@ fn expect_limited<T: Abort + AllocGlobal + Threads + Wait + Copy + Send + 'stati
     for piece in PIECES.iter() {
         expect_start(rt, text.as_slice(), limits, *piece, Who::Alone, row.2)?;
     }
-    for who in ALL.iter() {
+    for who in OTHERS.iter() {
         expect_start(rt, text.as_slice(), limits, 7, *who, row.2)?;
     }
     Ok(())
