@@ -3,10 +3,10 @@
 ghost use Rattle.std.specs.Prelude.{◌≡◌};
 
 use crate::model::except_of;
-use crate::verdict::words_of;
-use aero_grammar::{Batch, Parsed, parse_block, parse_line};
+use crate::verdict::{parsed, says};
+use aero_grammar::{Batch, Parsed, parse_line};
 use aero_leads::Leads;
-use aero_model::{Event, Except, Limits, Numbered, What};
+use aero_model::{Event, Except, Limits, Numbered, Verdict, What};
 use aero_verdict::Monitor;
 use std::alloc::{AllocError, Global};
 use std::mem;
@@ -67,17 +67,7 @@ fn see_all(
 fn is_watched(alloc: Global, run: &[Event], except: &Except, wanted: (bool, &str)) -> bool {
     let mut monitor = Monitor::<Leads>::new(alloc, &Limits::greatest(), except);
     let is_certain = see_all(alloc, &mut monitor, run, except).ok();
-    match monitor.finish() {
-        Ok(verdict) => is_certain == Some(wanted.0) && is(words_of(alloc, &verdict), wanted.1),
-        Err(_) => false,
-    }
-}
-
-fn is(words: Option<String>, wanted: &str) -> bool {
-    match words {
-        Some(words) => words.as_str() == wanted,
-        None => false,
-    }
+    is_certain == Some(wanted.0) && says(alloc, monitor.finish().ok(), wanted.1)
 }
 
 // Puts what the line says into the batch, and an event among the others too.
@@ -87,14 +77,6 @@ fn take_line(alloc: Global, batch: &mut Batch, run: &mut Vec<Event>, line: &str)
         Ok(None) => batch.push_blank().is_ok(),
         Err(_) => false,
     }
-}
-
-// What the text says as a block.
-fn parsed(alloc: Global, text: &[u8]) -> Option<Parsed> {
-    if text.len() > 1 << 30 {
-        return None;
-    }
-    parse_block(alloc, text).ok()
 }
 
 // The lines of the text, as a batch, and their events.
@@ -147,12 +129,7 @@ fn is_so(alloc: Global, row: Row) -> Option<bool> {
 
 // The first row that doesn't hold.
 fn first_misread(alloc: Global, rows: &[Row]) -> Option<usize> {
-    for i in 0..rows.len() {
-        if is_so(alloc, rows[i]) != Some(true) {
-            return Some(i);
-        }
-    }
-    None
+    rows.iter().position(|row| is_so(alloc, *row) != Some(true))
 }
 
 static ROWS: [Row; 4] = [
@@ -210,10 +187,7 @@ fn a_batch_reads_as_its_text_and_is_judged_as_it_comes(rt: HostRuntime) {
 
 // One part of so many reads.
 fn long_part(alloc: Global, count: u32) -> Option<Parsed> {
-    let event = match parse_line(alloc, b"T1|r(x)") {
-        Ok(Some(event)) => event,
-        _ => return None,
-    };
+    let event = parse_line(alloc, b"T1|r(x)").ok()??;
     let mut batch = Batch::new(alloc);
     for _ in 0..count {
         batch.push(&event).ok()?;
@@ -222,23 +196,17 @@ fn long_part(alloc: Global, count: u32) -> Option<Parsed> {
 }
 
 // The verdict on it.
-fn long_verdict(alloc: Global, count: u32) -> Option<String> {
+fn long_verdict(alloc: Global, count: u32) -> Option<Verdict> {
     let except = except_of(alloc, "")?;
     let part = long_part(alloc, count)?;
     let mut monitor = Monitor::<Leads>::new(alloc, &Limits::greatest(), &except);
-    let is_fed = monitor.feed(&part, &except).is_ok();
-    match monitor.finish() {
-        Ok(verdict) if is_fed => words_of(alloc, &verdict),
-        _ => None,
-    }
+    monitor.feed(&part, &except).ok()?;
+    monitor.finish().ok()
 }
 
+// A piece of a file is never so long, so no run of the program has such a part.
 #[test]
 fn a_part_of_over_a_million_events_is_judged(rt: HostRuntime) {
-    assert!(rt;
-        is(
-            long_verdict(rt.alloc(), 1_048_577),
-            "serializable 1048577 0"
-        )
-    );
+    let verdict = long_verdict(rt.alloc(), 1_048_577);
+    assert!(rt; says(rt.alloc(), verdict, "serializable 1048577 0"));
 }

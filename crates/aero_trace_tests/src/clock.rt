@@ -82,12 +82,7 @@ fn fits(alloc: Global, row: &Row) -> Option<bool> {
 
 // The first row that doesn't hold.
 fn first_wrong(alloc: Global, rows: &[Row]) -> Option<usize> {
-    for i in 0..rows.len() {
-        if fits(alloc, &rows[i]) != Some(true) {
-            return Some(i);
-        }
-    }
-    None
+    rows.iter().position(|row| fits(alloc, row) != Some(true))
 }
 
 static ROWS: [Row; 8] = [

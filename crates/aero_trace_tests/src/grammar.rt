@@ -1,4 +1,5 @@
-use aero_grammar::{LineEvent, Parsed, parse_block, parse_line};
+use crate::verdict::{parsed, push_word};
+use aero_grammar::{LineEvent, Parsed, parse_line};
 use aero_model::{Event, LineFault, Numbered, What};
 use aero_names::NameList;
 use std::alloc::Global;
@@ -14,10 +15,7 @@ fn push_bytes(words: &mut String, bytes: &[u8]) -> bool {
 }
 
 fn push_fault(alloc: Global, words: &mut String, fault: LineFault) -> bool {
-    match format!(in alloc; "{fault:?}") {
-        Ok(text) => words.push_str(&text).is_ok(),
-        Err(_) => false,
-    }
+    push_word(words, format!(in alloc; "{fault:?}").ok())
 }
 
 fn push_name(words: &mut String, names: &NameList, number: u32) -> bool {
@@ -43,10 +41,7 @@ fn push_event(alloc: Global, words: &mut String, event: &Event) -> bool {
 }
 
 fn push_op(alloc: Global, words: &mut String, event: &Event) -> bool {
-    match format!(in alloc; " {:?}", event.op) {
-        Ok(op) => words.push_str(&op).is_ok(),
-        Err(_) => false,
-    }
+    push_word(words, format!(in alloc; " {:?}", event.op).ok())
 }
 
 fn push_target(words: &mut String, event: &Event) -> bool {
@@ -54,14 +49,6 @@ fn push_target(words: &mut String, event: &Event) -> bool {
         Some(target) => words.push_str(" ").is_ok() && push_bytes(words, target.bytes()),
         None => true,
     }
-}
-
-// What the block says. `None` where memory is refused.
-fn parsed(alloc: Global, text: &[u8]) -> Option<Parsed> {
-    if text.len() > 1 << 30 {
-        return None;
-    }
-    parse_block(alloc, text).ok()
 }
 
 // What the first line of a block says.
@@ -127,12 +114,8 @@ fn says(alloc: Global, line: &[u8], wanted: &[u8]) -> bool {
 
 // The first line that says something else.
 fn first_misread(alloc: Global, rows: &[(&str, &str)]) -> Option<usize> {
-    for i in 0..rows.len() {
-        if !says(alloc, rows[i].0.as_bytes(), rows[i].1.as_bytes()) {
-            return Some(i);
-        }
-    }
-    None
+    rows.iter()
+        .position(|row| !says(alloc, row.0.as_bytes(), row.1.as_bytes()))
 }
 
 static LINES: [(&str, &str); 43] = [
@@ -220,12 +203,8 @@ fn says_filled(alloc: Global, row: &LongRow) -> Option<bool> {
 
 // The first line that says something else.
 fn first_misread_of_long(alloc: Global, rows: &[LongRow]) -> Option<usize> {
-    for i in 0..rows.len() {
-        if says_filled(alloc, &rows[i]) != Some(true) {
-            return Some(i);
-        }
-    }
-    None
+    rows.iter()
+        .position(|row| says_filled(alloc, row) != Some(true))
 }
 
 static LONG: [LongRow; 21] = [
@@ -305,19 +284,16 @@ fn push_names(words: &mut String, kind: &str, names: &NameList) -> bool {
 }
 
 fn push_count(alloc: Global, words: &mut String, lines: u32) -> bool {
-    match format!(in alloc; "lines {lines}") {
-        Ok(text) => words.push_str(&text).is_ok(),
-        Err(_) => false,
-    }
+    push_word(words, format!(in alloc; "lines {lines}").ok())
 }
 
 // An event by its line and its numbers.
 fn push_numbers(alloc: Global, words: &mut String, event: &LineEvent) -> bool {
     let (line, event) = event.parts();
-    match format!(in alloc; ", {line}: {} {:?}", event.thread, event.what) {
-        Ok(text) => words.push_str(&text).is_ok(),
-        Err(_) => false,
-    }
+    push_word(
+        words,
+        format!(in alloc; ", {line}: {} {:?}", event.thread, event.what).ok(),
+    )
 }
 
 fn push_events(alloc: Global, words: &mut String, events: &[LineEvent]) -> bool {
@@ -332,10 +308,7 @@ fn push_last(alloc: Global, words: &mut String, fault: Option<(u32, LineFault)>)
     let Some((line, fault)) = fault else {
         return true;
     };
-    match format!(in alloc; ", {line}: {fault:?}") {
-        Ok(text) => words.push_str(&text).is_ok(),
-        Err(_) => false,
-    }
+    push_word(words, format!(in alloc; ", {line}: {fault:?}").ok())
 }
 
 // The block's lines, its tables, each event by its line and its numbers, and the fault.
@@ -363,12 +336,8 @@ fn is_block_read(alloc: Global, row: &(&str, &str)) -> Option<bool> {
 
 // The first block that says something else.
 fn first_block_misread(alloc: Global, rows: &[(&str, &str)]) -> Option<usize> {
-    for i in 0..rows.len() {
-        if is_block_read(alloc, &rows[i]) != Some(true) {
-            return Some(i);
-        }
-    }
-    None
+    rows.iter()
+        .position(|row| is_block_read(alloc, row) != Some(true))
 }
 
 static BLOCKS: [(&str, &str); 6] = [
@@ -395,37 +364,4 @@ static BLOCKS: [(&str, &str); 6] = [
 #[test]
 fn blocks_are_read_up_to_their_first_fault(rt: HostRuntime) {
     assert_eq!(rt; first_block_misread(rt.alloc(), &BLOCKS), None);
-}
-
-static DEEDS: [What; 11] = [
-    What::Read(1),
-    What::Write(2),
-    What::Acquire(3),
-    What::Release(4),
-    What::Fork(5),
-    What::Join(6),
-    What::Begin(None),
-    What::Begin(Some(0)),
-    What::Begin(Some(u32::MAX)),
-    What::End,
-    What::Exempt,
-];
-
-// The first that an event of a line doesn't give back, or gives back with other numbers.
-fn first_lost(deeds: &[What]) -> Option<usize> {
-    for i in 0..deeds.len() {
-        let event = Numbered {
-            thread: 7,
-            what: deeds[i],
-        };
-        if LineEvent::new(8, event).parts() != (8, event) {
-            return Some(i);
-        }
-    }
-    None
-}
-
-#[test]
-fn an_event_of_a_line_gives_back_what_it_is_made_of(rt: HostRuntime) {
-    assert_eq!(rt; first_lost(&DEEDS), None);
 }

@@ -1,11 +1,9 @@
-//! Tests of the crates that read and judge one trace: names, lines, events, clocks, serial orders and verdicts,
-//! and the sentences on faults.
+//! Tests of the crates that read and judge one trace: names, lines, events, clocks, serial orders and verdicts.
 //!
 //! A crate with tests is proved twice, with them and without, so they stand here, above all of the
 //! crates, and each is proved once. A module has the tests of the crate that it is named for, most of
-//! them as tables of texts; `serial` has those of serial orders and of who made an event, `said` has rows
-//! that `leads` and `end` share, and `replaced` compares verdicts of generated traces. It has nothing for
-//! other crates.
+//! them as tables of texts; `serial` has those of serial orders and of who made an event, and `said` has
+//! rows that `leads` and `end` share. It has nothing for other crates.
 #![tactic(auto)]
 
 #[cfg(test)]
@@ -14,10 +12,6 @@ mod batch;
 mod clock;
 #[cfg(test)]
 mod end;
-#[cfg(test)]
-mod explained;
-#[cfg(test)]
-mod faults;
 #[cfg(test)]
 mod grammar;
 #[cfg(test)]
@@ -30,12 +24,6 @@ mod model;
 mod monitor;
 #[cfg(test)]
 mod names;
-#[cfg(test)]
-mod opened;
-#[cfg(test)]
-mod order;
-#[cfg(test)]
-mod replaced;
 #[cfg(test)]
 mod said;
 #[cfg(test)]

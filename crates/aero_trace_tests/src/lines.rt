@@ -48,13 +48,8 @@ type Row = (
 
 // The first row that doesn't hold.
 fn first_wrong(alloc: Global, rows: &[Row]) -> Option<usize> {
-    for i in 0..rows.len() {
-        let (pieces, blocks, last) = rows[i];
-        if !cuts(alloc, pieces, blocks, last) {
-            return Some(i);
-        }
-    }
-    None
+    rows.iter()
+        .position(|row| !cuts(alloc, row.0, row.1, row.2))
 }
 
 // Whether a line of which each piece has one byte comes with the last one, and nothing is left.

@@ -1,5 +1,4 @@
 use aero_model::{Counting, Except, Limits, Name, NameFault, SharedExcept, Terms};
-use indexmap::IndexSet;
 use std::alloc::Global;
 use std::io;
 use std::io::{Read, Write};
@@ -18,12 +17,7 @@ fn is_read_so(alloc: Global, bytes: &[u8], wanted: Option<NameFault>) -> bool {
 
 // The first row that doesn't hold.
 fn first_misread(alloc: Global, rows: &[NameRow]) -> Option<usize> {
-    for i in 0..rows.len() {
-        if !is_read_so(alloc, rows[i].0, rows[i].1) {
-            return Some(i);
-        }
-    }
-    None
+    rows.iter().position(|row| !is_read_so(alloc, row.0, row.1))
 }
 
 // The first length from 1 to 255 of which a name isn't read.
@@ -86,15 +80,6 @@ fn limits_are_made_up_to_the_greatest(rt: HostRuntime) {
     assert!(rt; most == Some(Limits::greatest()) && first_unlimited() == None);
 }
 
-#[test]
-fn long_sources_may_have_more_bytes_and_lines(rt: HostRuntime) {
-    let long = Limits::long();
-    let traces = (long.threads, long.names);
-    assert!(rt;
-        (long.bytes, long.lines) == (1 << 46, 4_000_000_000) && traces == (65_536, 1 << 26)
-    );
-}
-
 fn push_label(alloc: Global, labels: &mut Vec<Name>, label: &str) -> Option<()> {
     labels.push(Name::read(alloc, label.as_bytes()).ok()?).ok()
 }
@@ -148,172 +133,6 @@ fn up_to_64_labels_are_listed(rt: HostRuntime) {
         is_listed(alloc, 65),
     ];
     assert!(rt; listed == [Some(true), Some(true), Some(false)]);
-}
-
-// Whether the list leaves out the label `f`, `h`, and a begin without one.
-fn left_out(alloc: Global, text: &str) -> Option<(bool, bool, bool)> {
-    let except = except_of(alloc, text)?;
-    Some((
-        except.leaves_out(b"f"),
-        except.leaves_out(b"h"),
-        except.leaves_out_unlabelled(),
-    ))
-}
-
-#[test]
-fn a_list_leaves_out_its_labels_or_all_but_these(rt: HostRuntime) {
-    let alloc = rt.alloc();
-    let found = [left_out(alloc, "f g"), left_out(alloc, "only: f g")];
-    assert!(rt; found == [Some((true, false, false)), Some((false, true, true))]);
-}
-
-fn insert_label(alloc: Global, labels: &mut IndexSet<Name>, label: &str) -> Option<()> {
-    let label = Name::read(alloc, label.as_bytes()).ok()?;
-    labels.insert(label).ok()?;
-    Some(())
-}
-
-// The set of a text's labels, which are those of the only transactions, or of none.
-fn set_of(alloc: Global, text: &str, only: bool) -> Option<Except> {
-    let mut labels = IndexSet::new(alloc);
-    for label in text.split(' ') {
-        insert_label(alloc, &mut labels, label)?;
-    }
-    Except::of_set(labels, only)
-}
-
-// The places of the labels `f`, `g`, `h` and `x`.
-fn places_in(except: &Except) -> [Option<usize>; 4] {
-    [
-        except.place_of(b"f"),
-        except.place_of(b"g"),
-        except.place_of(b"h"),
-        except.place_of(b"x"),
-    ]
-}
-
-// These places, and how many labels there are.
-fn placed(except: Option<Except>) -> Option<([Option<usize>; 4], usize)> {
-    let except = except?;
-    Some((places_in(&except), except.labels().len()))
-}
-
-#[test]
-fn a_label_has_the_place_where_it_is_first(rt: HostRuntime) {
-    let alloc = rt.alloc();
-    let listed = placed(except_of(alloc, "f g f h"));
-    assert!(rt; listed == Some(([Some(0), Some(1), Some(3), None], 4)));
-    let set = placed(set_of(alloc, "f g f h", false));
-    assert!(rt; set == Some(([Some(0), Some(1), Some(2), None], 3)));
-}
-
-// Whether the set of these labels leaves out `f` and `x`, and whether its labels are the only ones.
-fn left_out_by_set(alloc: Global, only: bool) -> Option<(bool, bool, bool)> {
-    let except = set_of(alloc, "f g", only)?;
-    Some((
-        except.leaves_out(b"f"),
-        except.leaves_out(b"x"),
-        except.is_only(),
-    ))
-}
-
-#[test]
-fn a_set_leaves_out_its_labels_or_all_but_these(rt: HostRuntime) {
-    let alloc = rt.alloc();
-    let found = [left_out_by_set(alloc, false), left_out_by_set(alloc, true)];
-    assert!(rt; found == [Some((true, false, false)), Some((false, true, true))]);
-}
-
-// Whether the list has the label or not as wanted, as a name and as bytes alike.
-fn is_had_so(alloc: Global, except: &Except, label: &str, wanted: bool) -> bool {
-    match Name::read(alloc, label.as_bytes()) {
-        Ok(name) => { except.has(&name) == wanted && except.has_bytes(label.as_bytes()) == wanted }
-        Err(_) => false,
-    }
-}
-
-// The first label that the list of the text has where it shouldn't, or doesn't have where it should.
-fn first_mislisted(alloc: Global, text: &str, rows: &[(&str, bool)]) -> Option<usize> {
-    let Some(except) = except_of(alloc, text) else {
-        return Some(0);
-    };
-    for i in 0..rows.len() {
-        if !is_had_so(alloc, &except, rows[i].0, rows[i].1) {
-            return Some(i);
-        }
-    }
-    None
-}
-
-static LABELS: [(&str, bool); 6] = [
-    ("f", true),
-    ("g.h()", true),
-    ("F", false),
-    ("ff", false),
-    ("g.h", false),
-    ("g", false),
-];
-
-#[test]
-fn a_list_has_the_labels_that_are_listed(rt: HostRuntime) {
-    let alloc = rt.alloc();
-    let mislisted = (
-        first_mislisted(alloc, "f g.h() f", &LABELS),
-        first_mislisted(alloc, "", &[("f", false)]),
-    );
-    assert!(rt; mislisted == (None, None));
-}
-
-// Whether lists of these labels are the same or not as wanted, in both directions alike.
-fn are_same_as_wanted(alloc: Global, row: &(&str, &str, bool)) -> Option<bool> {
-    let a = except_of(alloc, row.0)?;
-    let b = except_of(alloc, row.1)?;
-    Some(a.is_same(&b) == row.2 && b.is_same(&a) == row.2)
-}
-
-// The first row that doesn't hold.
-fn first_miscompared(alloc: Global, rows: &[(&str, &str, bool)]) -> Option<usize> {
-    for i in 0..rows.len() {
-        if are_same_as_wanted(alloc, &rows[i]) != Some(true) {
-            return Some(i);
-        }
-    }
-    None
-}
-
-static LISTS: [(&str, &str, bool); 8] = [
-    ("", "", true),
-    ("ab c", "ab c", true),
-    ("ab c", "c ab", false),
-    ("ab c", "a bc", false),
-    ("ab c", "ab", false),
-    ("ab", "ab ab", false),
-    ("only: ab c", "only: ab c", true),
-    ("only: ab", "ab", false),
-];
-
-#[test]
-fn lists_of_labels_are_the_same_in_their_order(rt: HostRuntime) {
-    assert_eq!(rt; first_miscompared(rt.alloc(), &LISTS), None);
-}
-
-// Whether a shared list has these labels, and still has them where one of two that share it is gone.
-fn is_shared(alloc: Global, labels: &str) -> Option<bool> {
-    let except = except_of(alloc, labels)?;
-    let (is_first, second) = shared_twice(alloc, labels, &except)?;
-    Some(is_first && second.get().is_same(&except))
-}
-
-// Whether the first of two that share the list has the labels, and the second, once the first is gone.
-fn shared_twice(alloc: Global, labels: &str, except: &Except) -> Option<(bool, SharedExcept)> {
-    let first = SharedExcept::new(alloc, except_of(alloc, labels)?).ok()?;
-    let second = first.share().ok()?;
-    Some((first.get().is_same(except), second))
-}
-
-#[test]
-fn a_list_of_labels_is_shared(rt: HostRuntime) {
-    assert!(rt; is_shared(rt.alloc(), "f g") == Some(true));
 }
 
 // Fails at its first call and at every other one after it, of `read`, `write` and `flush` alike, and

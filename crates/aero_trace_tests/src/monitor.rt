@@ -2,7 +2,7 @@
 ghost use Rattle.std.specs.Prelude.{◌≡◌};
 
 use crate::model::except_of;
-use crate::verdict::{parts_of, words_of};
+use crate::verdict::{is, parts_of, says, words_of};
 use aero_end::EndingClocks;
 use aero_grammar::Parsed;
 use aero_leads::Leads;
@@ -71,17 +71,7 @@ fn ends_with<E: Engine>(alloc: Global, monitor: Monitor<E>, wanted: &str) -> boo
         Some(verdict) => is(words_of(alloc, verdict), wanted),
         None => true,
     };
-    match monitor.finish() {
-        Ok(verdict) => is(words_of(alloc, &verdict), wanted) && is_certain_so,
-        Err(_) => false,
-    }
-}
-
-fn is(words: Option<String>, wanted: &str) -> bool {
-    match words {
-        Some(words) => words.as_str() == wanted,
-        None => false,
-    }
+    says(alloc, monitor.finish().ok(), wanted) && is_certain_so
 }
 
 // How a trace is judged, what is answered to its parts, and its verdict.
@@ -101,10 +91,8 @@ fn is_judged_so<E: Engine>(alloc: Global, parts: &[Parsed], case: Case<'_>) -> b
 }
 
 fn is_checked_so(alloc: Global, parts: &[Parsed], case: Case<'_>) -> bool {
-    match check_trace(alloc, parts, case.limits, case.except) {
-        Ok(verdict) => is(words_of(alloc, &verdict), case.verdict),
-        Err(_) => false,
-    }
+    let verdict = check_trace(alloc, parts, case.limits, case.except).ok();
+    says(alloc, verdict, case.verdict)
 }
 
 // Whether they are judged so by both engines, and by a check of them all.
@@ -136,12 +124,7 @@ fn is_so(alloc: Global, row: Row) -> Option<bool> {
 
 // The first row that doesn't hold.
 fn first_misjudged(alloc: Global, rows: &[Row]) -> Option<usize> {
-    for i in 0..rows.len() {
-        if is_so(alloc, rows[i]) != Some(true) {
-            return Some(i);
-        }
-    }
-    None
+    rows.iter().position(|row| is_so(alloc, *row) != Some(true))
 }
 
 static ROWS: [Row; 15] = [

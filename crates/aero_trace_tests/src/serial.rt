@@ -1,5 +1,5 @@
 use crate::model::terms_of;
-use crate::verdict::{parts_of, push_words};
+use crate::verdict::{parts_of, push_word, words_of};
 use aero_grammar::Parsed;
 use aero_judge::{Judge, judge_trace};
 use aero_model::{Except, Finding, Limits, Step, Terms, Verdict};
@@ -9,10 +9,7 @@ use std::alloc::{AllocError, Global};
 // The helpers below say that a row doesn't hold where memory is refused.
 
 fn push_line(alloc: Global, words: &mut String, line: u32) -> bool {
-    match format!(in alloc; "{line}/") {
-        Ok(word) => words.push_str(&word).is_ok(),
-        Err(_) => false,
-    }
+    push_word(words, format!(in alloc; "{line}/").ok())
 }
 
 fn push_lines(alloc: Global, words: &mut String, lines: &[u32]) -> bool {
@@ -48,10 +45,7 @@ fn push_step(alloc: Global, words: &mut String, step: &Step) -> bool {
     let Ok(thread) = str::from_utf8(step.thread.bytes()) else {
         return false;
     };
-    match format!(in alloc; "{line} {thread}/") {
-        Ok(word) => words.push_str(&word).is_ok(),
-        Err(_) => false,
-    }
+    push_word(words, format!(in alloc; "{line} {thread}/").ok())
 }
 
 fn push_steps(alloc: Global, words: &mut String, steps: &[Step]) -> bool {
@@ -69,7 +63,7 @@ fn push_told(
     verdict: &Verdict,
     steps: &Option<Vec<Step>>,
 ) -> bool {
-    if !push_words(alloc, words, verdict) {
+    if !push_word(words, words_of(alloc, verdict)) {
         return false;
     }
     match steps {
@@ -120,12 +114,8 @@ fn is_in_order(alloc: Global, limits: &Limits, row: &Row) -> Option<bool> {
 
 // The first row that doesn't hold.
 fn first_wrong(alloc: Global, limits: &Limits, rows: &[Row]) -> Option<usize> {
-    for i in 0..rows.len() {
-        if is_in_order(alloc, limits, &rows[i]) != Some(true) {
-            return Some(i);
-        }
-    }
-    None
+    rows.iter()
+        .position(|row| is_in_order(alloc, limits, row) != Some(true))
 }
 
 static ORDERED: [Row; 12] = [
@@ -332,12 +322,8 @@ fn are_actors(alloc: Global, row: &Actors) -> Option<bool> {
 
 // The first row that doesn't hold.
 fn first_other_actor(alloc: Global, rows: &[Actors]) -> Option<usize> {
-    for i in 0..rows.len() {
-        if are_actors(alloc, &rows[i]) != Some(true) {
-            return Some(i);
-        }
-    }
-    None
+    rows.iter()
+        .position(|row| are_actors(alloc, row) != Some(true))
 }
 
 static ACTORS: [Actors; 6] = [

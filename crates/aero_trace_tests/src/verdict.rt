@@ -3,14 +3,13 @@ use aero_end::EndingClocks;
 use aero_grammar::{Parsed, parse_block};
 use aero_judge::Judge;
 use aero_model::{Except, Limits, Verdict};
-use aero_verdict::engine::Engine;
 use aero_verdict::{check_trace, check_trace_by};
 use std::alloc::Global;
 
 // The helpers below say that a row doesn't hold where memory is refused.
 
-// What the text says as a block.
-fn parsed(alloc: Global, text: &[u8]) -> Option<Parsed> {
+// What the text says as a block, or `None` where memory is refused.
+pub(crate) fn parsed(alloc: Global, text: &[u8]) -> Option<Parsed> {
     if text.len() > 1 << 30 {
         return None;
     }
@@ -69,51 +68,24 @@ pub(crate) fn words_of(alloc: Global, verdict: &Verdict) -> Option<String> {
     }
 }
 
-// Puts it behind the words so far.
-pub(crate) fn push_words(alloc: Global, words: &mut String, verdict: &Verdict) -> bool {
-    match words_of(alloc, verdict) {
-        Some(text) => words.push_str(&text).is_ok(),
+// Puts the word behind the words so far, and says whether there is one and that went.
+pub(crate) fn push_word(words: &mut String, word: Option<String>) -> bool {
+    match word {
+        Some(word) => words.push_str(&word).is_ok(),
         None => false,
     }
 }
 
-fn verdict_of(
-    alloc: Global,
-    parts: &[Parsed],
-    limits: &Limits,
-    except: &Except,
-) -> Option<Verdict> {
-    check_trace(alloc, parts, limits, except).ok()
-}
-
-// The verdict that this engine leads to.
-fn verdict_by<E: Engine>(
-    alloc: Global,
-    parts: &[Parsed],
-    limits: &Limits,
-    except: &Except,
-) -> Option<Verdict> {
-    check_trace_by::<E>(alloc, parts, limits, except).ok()
-}
-
-// The same in words.
-pub(crate) fn judged_by<E: Engine>(
-    alloc: Global,
-    parts: &[Parsed],
-    limits: &Limits,
-    except: &Except,
-) -> Option<String> {
-    words_of(alloc, &verdict_by::<E>(alloc, parts, limits, except)?)
-}
-
-fn says(alloc: Global, verdict: Option<Verdict>, wanted: &str) -> bool {
+// Whether there is a verdict, and it has these words.
+pub(crate) fn says(alloc: Global, verdict: Option<Verdict>, wanted: &str) -> bool {
     match verdict {
-        Some(verdict) => says_so(words_of(alloc, &verdict), wanted),
+        Some(verdict) => is(words_of(alloc, &verdict), wanted),
         None => false,
     }
 }
 
-fn says_so(words: Option<String>, wanted: &str) -> bool {
+// Whether these are the wanted words.
+pub(crate) fn is(words: Option<String>, wanted: &str) -> bool {
     match words {
         Some(words) => words.as_str() == wanted,
         None => false,
@@ -131,12 +103,15 @@ fn has_verdict(
     except: &Except,
     wanted: &str,
 ) -> bool {
-    says(alloc, verdict_of(alloc, parts, limits, except), wanted)
-        && says(
-            alloc,
-            verdict_by::<EndingClocks>(alloc, parts, limits, except),
-            wanted,
-        )
+    says(
+        alloc,
+        check_trace(alloc, parts, limits, except).ok(),
+        wanted,
+    ) && says(
+        alloc,
+        check_trace_by::<EndingClocks>(alloc, parts, limits, except).ok(),
+        wanted,
+    )
 }
 
 // Whether a judge that was asked for this besides has the verdict.
@@ -178,12 +153,7 @@ fn is_judged(alloc: Global, limits: &Limits, row: (&str, &str, &str)) -> Option<
 
 // The first row that doesn't hold.
 fn first_misjudged_by_labels(alloc: Global, rows: &[Labelled]) -> Option<usize> {
-    for i in 0..rows.len() {
-        if is_judged(alloc, &Limits::greatest(), rows[i]) != Some(true) {
-            return Some(i);
-        }
-    }
-    None
+    rows.iter().position(|row| is_judged(alloc, &Limits::greatest(), *row) != Some(true))
 }
 
 // A trace, and its verdict.
@@ -191,13 +161,8 @@ type Row = (&'static str, &'static str);
 
 // The first row that doesn't hold.
 fn first_misjudged(alloc: Global, rows: &[Row]) -> Option<usize> {
-    for i in 0..rows.len() {
-        let (row, wanted) = rows[i];
-        if is_judged(alloc, &Limits::greatest(), ("", row, wanted)) != Some(true) {
-            return Some(i);
-        }
-    }
-    None
+    rows.iter().position(|row| is_judged(alloc, &Limits::greatest(), ("", row.0, row.1))
+        != Some(true))
 }
 
 // Limits on lines, threads, and variables and locks, a trace, and its verdict.
@@ -211,12 +176,8 @@ fn is_judged_under(alloc: Global, row: &Limited) -> Option<bool> {
 
 // The first row that doesn't hold.
 fn first_misjudged_under(alloc: Global, rows: &[Limited]) -> Option<usize> {
-    for i in 0..rows.len() {
-        if is_judged_under(alloc, &rows[i]) != Some(true) {
-            return Some(i);
-        }
-    }
-    None
+    rows.iter()
+        .position(|row| is_judged_under(alloc, row) != Some(true))
 }
 
 // Events and outermost begins are counted, and so are open blocks.
@@ -693,49 +654,4 @@ fn blocks_with_listed_labels_are_no_transactions(rt: HostRuntime) {
         first_misjudged_by_labels(alloc, &WHICH_LABELS_AND_OVER_PARTS),
     );
     assert!(rt; misjudged == (None, None));
-}
-
-// Two threads make blocks of one write in turn.
-fn are_many_blocks_judged(alloc: Global) -> bool {
-    let mut row = String::new(alloc);
-    let mut fits = true;
-    for _ in 0..15000 {
-        fits &= row
-            .push_str("T1|begin/T1|w(x)/T1|end/T2|begin/T2|w(x)/T2|end/")
-            .is_ok();
-    }
-    fits &= row.push_str("+").is_ok();
-    fits && is_judged(
-        alloc,
-        &Limits::greatest(),
-        ("", &row, "serializable 90000 30000"),
-    ) == Some(true)
-}
-
-fn push_thread(alloc: Global, row: &mut String, i: u32) -> bool {
-    match format!(in alloc; "T{i}|begin/T{i}|w(v{i})/T{i}|end/") {
-        Ok(lines) => row.push_str(&lines).is_ok(),
-        Err(_) => false,
-    }
-}
-
-// Each of so many threads makes a block of one write, to a variable of its own.
-fn are_many_threads_judged(alloc: Global, threads: u32, wanted: &str) -> bool {
-    let mut row = String::new(alloc);
-    let mut fits = true;
-    for i in 1..=threads {
-        fits &= push_thread(alloc, &mut row, i);
-    }
-    fits &= row.push_str("+").is_ok();
-    fits && is_judged(alloc, &Limits::greatest(), ("", &row, wanted)) == Some(true)
-}
-
-#[test]
-fn many_blocks_and_many_threads(rt: HostRuntime) {
-    let alloc = rt.alloc();
-    assert!(rt;
-        are_many_blocks_judged(alloc)
-            && are_many_threads_judged(alloc, 1024, "serializable 3072 1024")
-            && are_many_threads_judged(alloc, 1025, "serializable 3075 1025")
-    );
 }
