@@ -20,7 +20,7 @@ use Rattle.aero_batch.specs.Holding.{Holds, HasEnded, HasComeFrom, nothing_known
 use Rattle.aero_batch.specs.Inquiries.{Inquired, AreApart, all_open}
 use Rattle.aero_intake.specs.Held.{Known, IsDecisive}
 use Rattle.aero_intake.specs.Intake.{Taking, IsTaken, HaveCome, HasCome, with_passing, fed_all}
-use Rattle.aero_intake.specs.Source.{Sight, WasRead}
+use Rattle.aero_intake.specs.Source.{Closes, Sight, WasRead}
 use Rattle.aero_batch.specs.Steps.{TakesPiece, NotesEnding, CutsHeld, PassesOver, PassesOn, StopsReading, IsReadFrom, DecidesThere, HasDecided, HasEnough, IsWanted}
 use Rattle.aero_batch.specs.Steps.{with_chunk, last_of, ended_track}
 use Rattle.aero_intake.specs.Stories.{Story, AreEnough, BeginAlike, IsTracked, AreTracked, changed}
@@ -371,35 +371,51 @@ stopped_begins terms old now p tale ending o holds ended wanted same =
           (subst (λ bs. BeginAlike terms bs holds.cut) (sym (append-nil (tale p.read).chunks)) (holds.passed was.1)),
     )
 
--- what was passed over has come, and no more of it is read
-now_stopped : (terms : Terms) (old now : List Sighted) (p : Underway) (tale : ℕ → Story) → p.ended ≡ None → terms.stop ≡ true → p.intake.passed ≡ true →
-    p.intake.count ≤ terms.rules.limits.bytes → Holds terms old now p tale → Holds terms old now (record p { ended = Some Stopped }) tale
-now_stopped terms old now p tale reading asked_for passed within holds = record {
+-- a step in which the reader wasn't used yet
+unused_yet : (now after : List Sighted) (place : ℕ) (before_read after_read : Sight) → IsReadFrom now after place before_read after_read →
+    IsReadFrom now now place before_read before_read
+unused_yet now after place before_read after_read from = record {
+  was = from.was;
+  was_there = from.was_there;
+  used = from.used;
+  is_there = from.was_there ∙ ap (λ (r : Sight). Some (record { name = from.was.name; reader = r })) from.used;
+  others = λ s other. refl;
+}
+
+-- what was passed over has come, no more of it is read, and the reader is closed
+now_stopped : (terms : Terms) (old now after : List Sighted) (p : Underway) (tale : ℕ → Story) (before_read after_read : Sight) →
+    IsReadFrom now after p.read before_read after_read → Closes before_read after_read → p.ended ≡ None → terms.stop ≡ true → p.intake.passed ≡ true →
+    p.intake.count ≤ terms.rules.limits.bytes → Holds terms old now p tale → Holds terms old after (record p { ended = Some Stopped }) tale
+now_stopped terms old now after p tale before_read after_read from closes reading asked_for passed within holds =
+  let bytes = concat (tale p.read).pieces ++ p.intake.held in
+  let limit = terms.rules.limits.bytes in record {
   apart = holds.apart;
   tracked = holds.tracked;
-  ended = holds.ended;
+  ended = λ s below. ended_stays terms old now after p.read s (tale s) from.others (λ e. omega (arith, below, e)) (holds.ended s below);
   cut = holds.cut;
   taken = holds.taken;
   enough = holds.enough;
   passed = holds.passed;
   stopped = λ e. (asked_for, passed);
-  come = λ before after was is.
-      source_was_stopped before.reader after.reader terms.rules.limits.bytes p.intake.count (concat (tale p.read).pieces ++ p.intake.held)
-      (subst (λ e. HasCome before.reader after.reader terms.rules.limits.bytes (concat (tale p.read).pieces ++ p.intake.held) e) reading
-      (holds.come before after was is)) holds.taken.count within;
+  come = come_on terms old now after p.read before_read after_read bytes bytes p.ended (Some Stopped) from
+      (λ first come. source_was_stopped first before_read after_read limit p.intake.count bytes
+      (subst (λ e. HasCome first before_read limit bytes e) reading come) closes holds.taken.count within)
+      holds.come;
   asked = holds.asked;
   not_ended = holds.not_ended;
-  later = holds.later;
+  later = λ s above. ((holds.later s above).0, from.others s (λ e. omega (arith, above, e)) ∙ (holds.later s above).1);
 }
 
 -- the source is read no further
 pub stopping_holds : (terms : Terms) (old now after : List Sighted) (p q : Underway) (tale : ℕ → Story) (before_read after_read : Sight) →
-    IsReadFrom now after p.read before_read after_read → after_read ≡ before_read → p.ended ≡ None → StopsReading terms p q → Holds terms old now p tale →
+    IsReadFrom now after p.read before_read after_read → Closes before_read after_read → p.ended ≡ None → StopsReading terms p q → Holds terms old now p tale →
     (new : ℕ → Story) × Holds terms old after q new × ((s : ℕ) → s < p.read → new s ≡ tale s)
-stopping_holds terms old now after p q tale before_read after_read from unread reading stops holds =
+stopping_holds terms old now after p q tale before_read after_read from closes reading stops holds =
     let mid : Underway = record p { intake = with_passing p.intake } in
-    let passed = passing_over_holds terms old now after p mid tale before_read after_read from unread (record { enough = stops.enough; new_is = refl }) holds in
-    (passed.0, subst (λ (m : Underway). Holds terms old after m passed.0) (sym stops.new_is) (now_stopped terms old after mid passed.0 reading stops.asked_for refl stops.within passed.1), passed.2)
+    let passed = passing_over_holds terms old now now p mid tale before_read before_read (unused_yet now after p.read before_read after_read from) refl
+    (record { enough = stops.enough; new_is = refl }) holds in
+    let stopped = now_stopped terms old now after mid passed.0 before_read after_read from closes reading stops.asked_for refl stops.within passed.1 in
+    (passed.0, subst (λ (m : Underway). Holds terms old after m passed.0) (sym stops.new_is) stopped, passed.2)
 
 -- the source is passed on from
 pub passing_holds : (terms : Terms) (old now after : List Sighted) (p q : Underway) (tale : ℕ → Story) (before_read after_read : Sight) (first : Sighted) →

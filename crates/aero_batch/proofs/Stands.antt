@@ -255,8 +255,8 @@ step_goes terms old now after p q tale (inr (inr is)) names holds counted = go i
       counted = taking_counted terms (length old) p q is.before_read is.after_read takes counted;
       more = omega (arith, ap (λ (m : Underway). m.checked) takes.new_is);
     }
-    go (inl (reading, inr (unused, stops))) =
-        let new = stopping_holds terms old now after p q tale is.before_read is.after_read is.from unused reading stops holds in
+    go (inl (reading, inr (closes, stops))) =
+        let new = stopping_holds terms old now after p q tale is.before_read is.after_read is.from closes reading stops holds in
         record {
           new = new.0;
           holds = new.1;

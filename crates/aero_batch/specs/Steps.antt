@@ -16,7 +16,7 @@ use Rattle.aero_batch.specs.declared.kind.Kind.TheVariants as kinds
 use Rattle.aero_batch.specs.Inquiries.{Inquired, nothing_asked, open_count, open_of, with_open, with_question}
 use Rattle.aero_intake.specs.Held.{nothing_read}
 use Rattle.aero_intake.specs.Intake.{nothing_taken, with_piece, with_cut, with_passing, Comes, Ends}
-use Rattle.aero_intake.specs.Source.{Sight}
+use Rattle.aero_intake.specs.Source.{Closes, Sight}
 use Rattle.aero_intake.specs.Tracks.{is_faulty, is_told, IsDecided, with_arrival, IsReady, GivesParts}
 use Rattle.aero_intake.specs.Stories.{changed, IsSettledWith}
 use Rattle.aero_model.specs.Terms.{Terms}
@@ -156,11 +156,11 @@ pub record PassesOn (old new : Underway) : Type 0 where
   pub none_held : length old.intake.held ≡ 0
   pub ends : EndsSource ending old new
 
--- One step of reading: while the reading has not ended the reader is used, or the source is read no further; or what is held is cut, or passed over; or
--- the source is passed on from.
+-- One step of reading: while the reading has not ended the reader is used, or closed, where the source is read no further; or what is held is cut, or
+-- passed over; or the source is passed on from.
 abbrev pub ReadsOn : Terms → Sight → Sight → Underway → Underway → Type 0
 ReadsOn terms before after old new =
-    ((old.ended ≡ None) × (ReadsPiece terms before after old new ⊎ ((after ≡ before) × StopsReading terms old new)))
+    ((old.ended ≡ None) × (ReadsPiece terms before after old new ⊎ (Closes before after × StopsReading terms old new)))
     ⊎ (((after ≡ before) × LetsHeldGo old new) ⊎ ((after ≡ before) × PassesOn old new))
 
 -- the verdict is asked for on what the chunks of a source say

@@ -20,7 +20,7 @@ use std::alloc::{AllocError, Global};
 use std::sync::{Arc, Wait};
 
 /// One step of reading the next source: a piece of it comes, or is known not to come any more; or it is read no
-/// further, where the plan asks for that and what was read before decides; or what is held of it is cut, and its chunk
+/// further, and closed, where the plan asks for that and what was read before decides; or what is held of it is cut, and its chunk
 /// asked about, or is passed over where what was read before decides; or, once nothing is held, it is noted how it has
 /// ended. An `AllocError` says that memory was refused.
 pub fn read_on<R: Followed, H: Helpers, T: Wait>(
@@ -42,6 +42,7 @@ pub fn read_on<R: Followed, H: Helpers, T: Wait>(
             end_source(setting, helpers, underway, ending)
         }
         None if stops_here(setting.plan, underway) => {
+            reader.close();
             stop_reading(underway);
             Ok(())
         }

@@ -1,8 +1,9 @@
 //! One step of a run.
-ghost use Rattle.std.specs.Prelude.{◌≡◌, ◌<◌, ◌≤◌, ◌↔◌, ℕ, None, length, map, slice_get, IfSome, OnOk};
+ghost use Rattle.std.specs.Prelude.{◌≡◌, ◌<◌, ◌≤◌, ◌↔◌, ℕ, None, length, map, slice_get, true, IfSome, OnOk};
 ghost use Rattle.aero_telling.specs.Founds.{sighted, whose};
 ghost use Rattle.aero_batch.specs.declared.kind.Kind.TheVariants.{Parse};
 ghost use Rattle.aero_batch.specs.Holding.{Counted};
+ghost use Rattle.aero_batch.specs.Inquiries.{open_count};
 ghost use Rattle.aero_intake.specs.PlanTerms.{terms_of};
 ghost use Rattle.aero_batch.specs.Steps.{Steps};
 
@@ -21,7 +22,8 @@ use std::sync::Wait;
 /// One step: the verdict on a source is asked for, or a piece is read, or what was read is cut and asked
 /// about; or, where the oldest question of a kind has its answer, the window is full, the next read is the first of a
 /// source that may wait, or nothing is left to read, that question is settled. So what is known of a
-/// source is told before the next read. An `AllocError` says that memory was refused.
+/// source is told before the next read. Where the plan stops early each read waits until no question is open: so it is
+/// made or not by what came before it, and never by when an answer came. An `AllocError` says that memory was refused.
 pub fn step<R: Followed, H: Helpers, T: Wait>(
     setting: &Setting<'_, T>,
     sources: &mut [SourceOf<R>],
@@ -37,6 +39,9 @@ pub fn step<R: Followed, H: Helpers, T: Wait>(
     ensures others { (s : ℕ) → (underway.old.read ≡ s → ⊥) →
         slice_get (map (sighted R.sight) sources.new) s ≡
         slice_get (map (sighted R.sight) sources.old) s }
+    ensures waits { (terms_of setting.now.plan.now).stop ≡ true →
+        0 < open_count underway.old.inquiry →
+        map (sighted R.sight) sources.new ≡ map (sighted R.sight) sources.old }
 {
     let answered = underway.inquiry.hear(setting.rt, helpers);
     step_on(setting, sources, helpers, underway, answered)
@@ -59,6 +64,9 @@ fn step_on<R: Followed, H: Helpers, T: Wait>(
     ensures others { (s : ℕ) → (underway.old.read ≡ s → ⊥) →
         slice_get (map (sighted R.sight) sources.new) s ≡
         slice_get (map (sighted R.sight) sources.old) s }
+    ensures waits { (terms_of setting.now.plan.now).stop ≡ true →
+        0 < open_count underway.old.inquiry →
+        map (sighted R.sight) sources.new ≡ map (sighted R.sight) sources.old }
 {
     let kind = next_kind(&underway.inquiry, answered);
     if !underway.inquiry.has_room() {
@@ -86,14 +94,17 @@ fn next_kind(inquiry: &Inquiry, answered: Option<Kind>) -> Kind
     }
 }
 
-// Whether the next read is the first of a source that may wait, while questions on those before it are
-// open: what they say is told first. Where the plan stops early that is so of each read of such a source: what came of
-// it may decide, and the next piece may be long in coming.
-fn is_held_back<R>(plan: &Plan, sources: &[SourceOf<R>], underway: &Underway) -> bool {
+// Whether the next read waits until a question is settled: it is the first of a source that may wait, and what the open
+// questions say of those before it is told first. Where the plan stops early that is so of each read: what came may decide.
+fn is_held_back<R>(plan: &Plan, sources: &[SourceOf<R>], underway: &Underway) -> bool
+    ensures waits { (terms_of plan.now).stop ≡ true → 0 < open_count underway.now.inquiry →
+        underway.now.read < length sources.now → result ≡ true }
+{
     let Some(source) = sources.get(underway.read) else {
         return false;
     };
-    let waits_for_what_came = plan.terms.stop() && underway.intake.is_cut();
-    let is_next_to_wait = underway.intake.count() == 0 || waits_for_what_came;
-    source.may_wait && is_next_to_wait && !underway.inquiry.is_settled()
+    if underway.inquiry.is_settled() {
+        return false;
+    }
+    plan.terms.stop() || source.may_wait && underway.intake.count() == 0
 }

@@ -16,7 +16,7 @@ use Rattle.aero_judge.specs.Judging.{Judging, nothing_judged}
 use Rattle.aero_intake.specs.Alone.{IsFoundIn, StandsAlone, IsJudgedOut}
 use Rattle.aero_intake.specs.Held.{IsDecisive}
 use Rattle.aero_intake.specs.Intake.{Taking, nothing_taken, with_piece, with_cut, with_passing, fed_all, HaveCome, HasCome, Comes, Ends}
-use Rattle.aero_intake.specs.Source.{Sight, WasRead}
+use Rattle.aero_intake.specs.Source.{Closes, Sight, WasRead}
 use Rattle.aero_intake.specs.Stories.{AreEnough, BeginAlike}
 use Rattle.aero_intake.proofs.AsFar.{found_as_far}
 use Rattle.aero_intake.proofs.Taken.{nothing_is_taken, piece_is_held, held_is_cut, held_is_passed, cut_bytes, concat-more, chunks_with_last, nothing_has_come}
@@ -97,11 +97,12 @@ pass_stands terms before now ended i j enough is =
       come = subst (λ bs. HasCome before now terms.rules.limits.bytes bs ended) (sym (cut_bytes is.pieces i.held)) is.come;
     }
 
--- the source is read no further, and what is held was passed over
-pub stop_stands : (terms : Terms) (before now : Sight) (i : Taking) (j : Judging) → (i.passed ≡ true) ⊎ IsDecisive terms j.parts → terms.stop ≡ true →
-    i.count ≤ terms.rules.limits.bytes → StandsAlone terms before now None i j → StandsAlone terms before now (Some Stopped) (with_passing i) j
-stop_stands terms before now i j enough stop within is =
-    let p = pass_stands terms before now None i j enough is in record {
+-- the source is read no further, its reader is closed, and what is held was passed over
+pub stop_stands : (terms : Terms) (before mid now : Sight) (i : Taking) (j : Judging) → Closes mid now → (i.passed ≡ true) ⊎ IsDecisive terms j.parts →
+    terms.stop ≡ true → i.count ≤ terms.rules.limits.bytes → StandsAlone terms before mid None i j →
+    StandsAlone terms before now (Some Stopped) (with_passing i) j
+stop_stands terms before mid now i j closes enough stop within is =
+    let p = pass_stands terms before mid None i j enough is in record {
       pieces = p.pieces;
       cut = p.cut;
       fed = p.fed;
@@ -110,7 +111,7 @@ stop_stands terms before now i j enough stop within is =
       enough = p.enough;
       passed = p.passed;
       stopped = λ e. (stop, refl);
-      come = source_was_stopped before now terms.rules.limits.bytes i.count (concat p.pieces ++ []) p.come p.taken.count within;
+      come = source_was_stopped before mid now terms.rules.limits.bytes i.count (concat p.pieces ++ []) p.come closes p.taken.count within;
     }
 
 -- the reading has ended by itself

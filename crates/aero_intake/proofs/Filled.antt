@@ -1,5 +1,5 @@
 -- A read into a buffer behind what it holds.
-use Rattle.std.proofs.Common.{◌≡◌, ℕ, zero, suc, ◌+◌, ◌<◌, ◌≤◌, List, [], ◌∷◌, ◌++◌, length, take, Result, Ok, Err, refl, ◌∙◌, ap, ap₂, arith, drop_at}
+use Rattle.std.proofs.Common.{◌≡◌, ℕ, zero, suc, ◌+◌, ◌<◌, ◌≤◌, true, false, List, [], ◌∷◌, ◌++◌, length, take, Result, Ok, Err, refl, ◌∙◌, ap, ap₂, arith, drop_at}
 use Rattle.std.proofs.Common.{length-take-le}
 use Rattle.std.specs.Prelude.{is_err, if◌then◌else◌, ◌&&◌, nat_lt}
 use Rattle.std.specs.Global.{Vec}
@@ -13,7 +13,7 @@ use borrow.Rule.Slice.PartMut.{put_mid, post_of, take_put}
 use lib.Seq.{take-add, take-append-le}
 use Rattle.aero_model.specs.declared.verdict.Ending.TheVariants.{Whole}
 use Rattle.aero_model.specs.CallCounts.{moves_nothing}
-use Rattle.aero_intake.specs.Source.{gained, Sight, Trails, WasRead}
+use Rattle.aero_intake.specs.Source.{gained, is_last_read, Sight, Trails, WasRead}
 use Rattle.aero_intake.specs.Intake.{Fills, FillsWith}
 
 -- what was read into the part stands behind what is held
@@ -25,9 +25,10 @@ behind_front a k n xs ys within fits =
 
 pub fills : {E : Type 0} (before after : Sight) (held room k : ℕ) (xs ys : List ℕ) (r : Result ℕ E) → held ≤ length xs → length ys ≡ room → 0 < room →
     ReadsAtMost r ys → ReadConsumes before.bytes after.bytes r ys → after.faults ≡ before.faults + (if is_err r then 1 else 0) →
-    after.ends ≡ before.ends + (if moves_nothing r ys then 1 else 0) → Trails before.trail after.trail (gained r ys) → Fills before after held room xs (put_mid held k xs ys) r
-fills before after held room k xs [] (Ok zero) within long some bound bytes faults ends trail = absurd (omega (arith, long, some))
-fills before after held room k xs (y ∷ ys) (Ok zero) within long some bound bytes faults ends trail = (
+    after.ends ≡ before.ends + (if moves_nothing r ys then 1 else 0) → Trails before.trail after.trail (gained r ys) →
+    (is_last_read r ys ≡ true → after.is_open ≡ false) → after.closed ≡ before.closed → Fills before after held room xs (put_mid held k xs ys) r
+fills before after held room k xs [] (Ok zero) within long some bound bytes faults ends trail shut closed = absurd (omega (arith, long, some))
+fills before after held room k xs (y ∷ ys) (Ok zero) within long some bound bytes faults ends trail shut closed = (
   λ limit. record {
     came = bytes.0;
     trail = trail;
@@ -35,10 +36,12 @@ fills before after held room k xs (y ∷ ys) (Ok zero) within long some bound by
     ends = ends ∙ ap (λ b. before.ends + (if b then 1 else 0)) (lt-ltb 0 (suc (length ys)) (omega arith));
     fits = omega arith;
     rest = bytes.1 refl (omega arith);
+    shut = shut (lt-ltb 0 (suc (length ys)) (omega arith));
+    closed = closed;
   },
   take_put held k xs (y ∷ ys) within,
 )
-fills before after held room k xs ys (Ok (suc n)) within long some bound bytes faults ends trail = (
+fills before after held room k xs ys (Ok (suc n)) within long some bound bytes faults ends trail shut closed = (
   take (suc n) ys,
   record {
     came = bytes.0;
@@ -46,13 +49,14 @@ fills before after held room k xs ys (Ok (suc n)) within long some bound bytes f
     quiet = record {
       faults = omega (arith, faults);
       ends = ends ∙ (ap (λ b. before.ends + (if b && nat_lt 0 (length ys) then 1 else 0)) (ne_eqb (suc n) 0 (λ e. omega (arith, e))) ∙ omega arith);
+      closed = closed;
     };
   },
   length-take-le (suc n) ys bound.0,
   omega (arith, bound.0, long),
   behind_front held k (suc n) xs ys within bound.0,
 )
-fills before after held room k xs ys (Err e) within long some bound bytes faults ends trail = (
+fills before after held room k xs ys (Err e) within long some bound bytes faults ends trail shut closed = (
   λ limit. record {
     came = Consumes-kept before.bytes before.bytes after.bytes [] (Consumes-nil before.bytes) bytes;
     trail = trail;
@@ -60,6 +64,8 @@ fills before after held room k xs ys (Err e) within long some bound bytes faults
     ends = omega (arith, ends);
     fits = omega arith;
     rest = tt;
+    shut = shut refl;
+    closed = closed;
   },
   take_put held k xs ys within,
 )

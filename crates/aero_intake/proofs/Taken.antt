@@ -8,7 +8,7 @@ use Rattle.std.specs.Io.KnownBytes.{Consumes}
 use Rattle.aero_model.specs.declared.verdict.Ending.{Ending}
 use Rattle.aero_model.specs.declared.verdict.Ending.TheVariants.{Whole, Broken, TooLarge, Stopped}
 use Rattle.aero_lines.specs.Cutting.{Cutting, nothing_yet, fed, block_of, last_block, blocks_from}
-use Rattle.aero_intake.specs.Source.{Sight, Trail, Trails, WasRead}
+use Rattle.aero_intake.specs.Source.{Closes, Sight, Trail, Trails, WasRead}
 use Rattle.aero_intake.specs.Intake.{Taking, nothing_taken, with_piece, with_cut, with_passing, fed_all, chunks_so_far, IsTaken, HaveCome, Ends}
 
 fed_all-more : (c : Cutting) (pieces : List (List ℕ)) (piece : List ℕ) → fed_all c (pieces ++ piece ∷ []) ≡ fed (fed_all c pieces) piece
@@ -86,14 +86,18 @@ trails_more (Some x) (Some y) None bs cs p q = absurd q
 trails_more (Some x) (Some y) (Some z) bs cs p q = (q.0 ∙ p.0, q.1 ∙ ap (λ l. l ++ cs) p.1 ∙ append_assoc x.given bs cs)
 
 pub nothing_has_come : (seen : Sight) → HaveCome seen seen []
-nothing_has_come seen = record { came = Consumes-nil seen.bytes; trail = trails_nil seen.trail; quiet = record { faults = refl; ends = refl } }
+nothing_has_come seen = record { came = Consumes-nil seen.bytes; trail = trails_nil seen.trail; quiet = record { faults = refl; ends = refl; closed = refl } }
 
 pub more_has_come : (before mid after : Sight) (bytes more : List ℕ) → HaveCome before mid bytes → HaveCome mid after more →
     HaveCome before after (bytes ++ more)
 more_has_come before mid after bytes more have then = record {
   came = Consumes-trans before.bytes mid.bytes after.bytes bytes more have.came then.came;
   trail = trails_more before.trail mid.trail after.trail bytes more have.trail then.trail;
-  quiet = record { faults = then.quiet.faults ∙ have.quiet.faults; ends = then.quiet.ends ∙ have.quiet.ends };
+  quiet = record {
+    faults = then.quiet.faults ∙ have.quiet.faults;
+    ends = then.quiet.ends ∙ have.quiet.ends;
+    closed = then.quiet.closed ∙ have.quiet.closed;
+  };
 }
 
 -- a reading that has ended by itself wasn't stopped
@@ -114,6 +118,8 @@ source_was_read before mid after limit count bytes Whole have is ends = record {
   ends = omega (arith, ends.0.ends, have.quiet.ends);
   fits = subst (λ n. n ≤ limit) is ends.1;
   rest = ends.0.rest;
+  shut = ends.0.shut;
+  closed = ends.0.closed ∙ have.quiet.closed;
 }
 source_was_read before mid after limit count bytes Broken have is ends = record {
   came = subst (λ bs. Consumes before.bytes after.bytes bs) (append-nil bytes)
@@ -124,27 +130,33 @@ source_was_read before mid after limit count bytes Broken have is ends = record 
   ends = omega (arith, ends.0.ends, have.quiet.ends);
   fits = subst (λ n. n ≤ limit) is ends.1;
   rest = tt;
+  shut = ends.0.shut;
+  closed = ends.0.closed ∙ have.quiet.closed;
 }
 source_was_read before mid after limit count bytes TooLarge have is ends = record {
-  came = subst (λ (s : Sight). Consumes before.bytes s.bytes bytes) (sym ends.0) have.came;
-  trail = subst (λ (s : Sight). Trails before.trail s.trail bytes) (sym ends.0) have.trail;
-  faults = omega (arith, ap (λ (s : Sight). s.faults) ends.0, have.quiet.faults);
-  ends = omega (arith, ap (λ (s : Sight). s.ends) ends.0, have.quiet.ends);
+  came = subst (λ b. Consumes before.bytes b bytes) (sym ends.0.bytes) have.came;
+  trail = subst (λ t. Trails before.trail t bytes) (sym ends.0.trail) have.trail;
+  faults = omega (arith, ends.0.faults, have.quiet.faults);
+  ends = omega (arith, ends.0.ends, have.quiet.ends);
   fits = sym is ∙ ends.1;
   rest = tt;
+  shut = ends.0.shut;
+  closed = tt;
 }
 source_was_read before mid after limit count bytes Stopped have is ends = absurd ends
 
--- what was read of a source that is read no further
-pub source_was_stopped : (before after : Sight) (limit count : ℕ) (bytes : List ℕ) →
-    HaveCome before after bytes → count ≡ length bytes → count ≤ limit → WasRead before after limit bytes Stopped
-source_was_stopped before after limit count bytes have is within = record {
-  came = have.came;
-  trail = have.trail;
-  faults = omega (arith, have.quiet.faults);
-  ends = omega (arith, have.quiet.ends);
+-- what was read of a source that is read no further, and whose reader is closed
+pub source_was_stopped : (before mid after : Sight) (limit count : ℕ) (bytes : List ℕ) →
+    HaveCome before mid bytes → Closes mid after → count ≡ length bytes → count ≤ limit → WasRead before after limit bytes Stopped
+source_was_stopped before mid after limit count bytes have closes is within = record {
+  came = subst (λ b. Consumes before.bytes b bytes) (sym closes.bytes) have.came;
+  trail = subst (λ t. Trails before.trail t bytes) (sym closes.trail) have.trail;
+  faults = omega (arith, closes.faults, have.quiet.faults);
+  ends = omega (arith, closes.ends, have.quiet.ends);
   fits = subst (λ n. n ≤ limit) is within;
   rest = tt;
+  shut = closes.shut;
+  closed = tt;
 }
 
 -- whatever could follow the pieces, its chunks begin with those that they gave

@@ -5,7 +5,7 @@ use Rattle.std.specs.Io.KnownBytes.{Consumes}
 use Rattle.aero_model.specs.declared.verdict.Ending.{Ending}
 use Rattle.aero_model.specs.declared.verdict.Ending.TheVariants.{Whole, Broken, TooLarge, Stopped}
 use Rattle.aero_lines.specs.Cutting.{Cutting, nothing_yet, fed, block_of}
-use Rattle.aero_intake.specs.Source.{IsQuiet, Sight, Trails, WasRead}
+use Rattle.aero_intake.specs.Source.{Closes, IsQuiet, Sight, Trails, WasRead}
 use Rattle.aero_intake.specs.declared.intake.Taken.{Taken}
 use Rattle.aero_intake.specs.declared.intake.Taken.TheVariants.{Piece, Ended}
 
@@ -67,10 +67,10 @@ pub record Comes (before after : Sight) (most limit count : ℕ) (piece : List �
   pub few : length piece ≤ most
   pub within : count + length piece ≤ limit + 1
 
--- The source has ended once so many bytes had come: by a read that gave nothing, or, where it is too large, without a read. No read says that it is
--- read no further.
+-- The source has ended once so many bytes had come: by a read that gave nothing, or, where it is too large, without a read, and its reader is closed. No
+-- read says that it is read no further.
 abbrev pub Ends : (before after : Sight) (limit count : ℕ) → Ending → Type 0
-Ends before after limit count TooLarge = (after ≡ before) × (count ≡ limit + 1)
+Ends before after limit count TooLarge = Closes before after × (count ≡ limit + 1)
 Ends before after limit count Stopped = ⊥
 Ends before after limit count ending = WasRead before after limit [] ending × (count ≤ limit)
 

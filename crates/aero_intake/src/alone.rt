@@ -23,6 +23,8 @@ use std::sync::atomic::{AtomicBool, Ordering};
 /// Reads a source as far as the plan asks for, judges its chunks as they come, and returns the finding. It keeps one chunk
 /// at a time.
 ///
+/// Once the source has ended no file of the reader is open.
+///
 /// It returns `None` if memory was refused, or if the flag was set before the source had ended. The reader then stays
 /// where it is.
 pub fn judge_source<R: Followed, T: Wait>(
@@ -118,6 +120,7 @@ impl SoFar {
         ensures origin { origin_in (R.sight reader.new) ≡ origin_in (R.sight reader.old) }
     {
         if self.stops_here(plan) {
+            reader.close();
             self.intake.pass_over();
             return Ok(Some(Ending::Stopped));
         }

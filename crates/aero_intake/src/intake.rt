@@ -104,7 +104,7 @@ impl Intake {
     /// Reads one piece, which is held until it is cut. A read asks for at least 1 byte, for so many at
     /// most, and for none past `limit + 1` in all. The source has ended where the read failed, of
     /// whatever kind (`Broken`), where it gave 0 bytes (`Whole`), and, without a read, where
-    /// `limit + 1` bytes have come (`TooLarge`).
+    /// `limit + 1` bytes have come (`TooLarge`). Once it has ended no file of the reader is open.
     ///
     /// The limit is at most 2^46, and `limit + 1` bytes have come at most.
     pub fn take<R: Followed>(&mut self, reader: &mut R, piece: u32, limit: u64) -> Taken
@@ -117,6 +117,7 @@ impl Intake {
     {
         let left = limit + 1 - self.count;
         if left == 0 {
+            reader.close();
             return Taken::Ended(Ending::TooLarge);
         }
         let room = (self.buffer.len() - self.held)

@@ -4,14 +4,14 @@ use std::io;
 use std::io::Read;
 
 /// A reader of which contracts see how many reads failed and found the end, beside the bytes that it has left, and what it
-/// says of itself: what it was made for, and which bytes it gave. Any reader is one within a `Counting`, and says nothing of
-/// itself then.
+/// says of itself: what it was made for, which bytes it gave, and whether a file of it is open. Any reader is one within a
+/// `Counting`: it says nothing of itself then, and opens no file that this crate could close.
 pub trait Followed {
-    ghost use Rattle.std.specs.Prelude.{◌≡◌, ◌+◌, if◌then◌else◌, is_err};
+    ghost use Rattle.std.specs.Prelude.{◌≡◌, ◌+◌, if◌then◌else◌, is_err, false, true};
     ghost use Rattle.std.specs.Io.{ReadsAtMost};
     ghost use Rattle.std.specs.Io.KnownBytes.{ReadConsumes};
     ghost use Rattle.aero_model.specs.CallCounts.{moves_nothing};
-    ghost use Rattle.aero_intake.specs.Source.{gained, Sight, Trails};
+    ghost use Rattle.aero_intake.specs.Source.{gained, is_last_read, Closes, Sight, Trails};
 
     ghost sight: { Self → Sight };
 
@@ -23,7 +23,13 @@ pub trait Followed {
             (sight self.old).faults + (if is_err result then 1 else 0) }
         ensures ends { (sight self.new).ends ≡
             (sight self.old).ends + (if moves_nothing result buf.new then 1 else 0) }
-        ensures trail { Trails (sight self.old).trail (sight self.new).trail (gained result buf.new) };
+        ensures trail { Trails (sight self.old).trail (sight self.new).trail (gained result buf.new) }
+        ensures shut { is_last_read result buf.new ≡ true → (sight self.new).is_open ≡ false }
+        ensures closed { (sight self.new).closed ≡ (sight self.old).closed };
+
+    /// Closes the file that is open of it, if one is. Nothing is to be read of it afterwards: what a read would give isn't said.
+    fn close(&mut self)
+        ensures { Closes (sight self.old) (sight self.new) };
 }
 
 impl<R: Read> Followed for Counting<R> {
@@ -35,6 +41,9 @@ impl<R: Read> Followed for Counting<R> {
     fn read(&mut self, buf: &mut [u8]) -> io::Result<usize> {
         Read::read(self, buf)
     }
+
+    #[inline(always)]
+    fn close(&mut self) {}
 }
 
 /// A source: the name that it has in the report, whatever its bytes, and the reader of its text.

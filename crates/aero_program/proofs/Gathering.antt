@@ -6,7 +6,7 @@ use Rattle.std.proofs.lemmas.List.{length-map}
 use Rattle.aero_program.specs.declared.reason.Reason.{Reason}
 use Rattle.aero_program.specs.declared.listing.Unlisted.{Unlisted}
 use Rattle.aero_program.specs.declared.listing.Unlisted.TheVariants as unlisted
-use Rattle.aero_program.specs.Inputs.{Standing, Standard, Unopened, Reading, Ended, Failed, AnswersAs, MayFailFrom, StepsTo}
+use Rattle.aero_program.specs.Inputs.{Standing, Standard, Unopened, Reading, Ended, Failed, Closed, AnswersAs, MayFailFrom, StepsTo}
 use Rattle.aero_model.specs.CallCounts.{Seen}
 use Rattle.aero_program.specs.Listing.{HasTooMany, IsFaultOf, IsListFault, IsReadFor, StandsAfter}
 use Rattle.aero_program.specs.Reasons.{reason_after}
@@ -21,21 +21,25 @@ reason_stays number (Some reason) n = refl
 may_before_ok : (E : Type 0) (can_open can_fail : List ℕ → Type 0) (old new : Standing) (buffer : List ℕ) (n : ℕ) → StepsTo {E = E} can_open old new buffer (Ok n) → MayFailFrom can_fail new → MayFailFrom can_fail old
 may_before_ok E can_open can_fail (Standard before) new buffer n steps may = tt
 may_before_ok E can_open can_fail (Failed had) new buffer n steps may = tt
+may_before_ok E can_open can_fail (Closed had) new buffer n steps may = tt
 may_before_ok E can_open can_fail (Unopened path had) (Standard reader) buffer n steps may = absurd steps.1
 may_before_ok E can_open can_fail (Unopened path had) (Unopened at left) buffer n steps may = absurd steps.1
 may_before_ok E can_open can_fail (Unopened path had) (Reading left) buffer n steps may = may path
 may_before_ok E can_open can_fail (Unopened path had) Ended buffer n steps may = absurd may
 may_before_ok E can_open can_fail (Unopened path had) (Failed left) buffer n steps may = absurd (true≢false (sym steps))
+may_before_ok E can_open can_fail (Unopened path had) (Closed left) buffer n steps may = absurd steps.1
 may_before_ok E can_open can_fail (Reading had) (Standard reader) buffer n steps may = absurd steps
 may_before_ok E can_open can_fail (Reading had) (Unopened at left) buffer n steps may = absurd steps
 may_before_ok E can_open can_fail (Reading had) (Reading left) buffer n steps may = may
 may_before_ok E can_open can_fail (Reading had) Ended buffer n steps may = absurd may
 may_before_ok E can_open can_fail (Reading had) (Failed left) buffer n steps may = absurd steps
+may_before_ok E can_open can_fail (Reading had) (Closed left) buffer n steps may = absurd steps
 may_before_ok E can_open can_fail Ended (Standard reader) buffer n steps may = absurd steps
 may_before_ok E can_open can_fail Ended (Unopened at left) buffer n steps may = absurd steps
 may_before_ok E can_open can_fail Ended (Reading left) buffer n steps may = absurd steps
 may_before_ok E can_open can_fail Ended Ended buffer n steps may = may
 may_before_ok E can_open can_fail Ended (Failed left) buffer n steps may = absurd steps
+may_before_ok E can_open can_fail Ended (Closed left) buffer n steps may = absurd steps
 
 -- what may fail after a read that worked may fail before it
 pub may_before : {E : Type 0} (can_open can_fail : List ℕ → Type 0) (old new : Standing) (buffer : List ℕ) (r : Result ℕ E) (n : ℕ) → r ≡ Ok n → StepsTo can_open old new buffer r
@@ -55,6 +59,7 @@ GoesOn (Unopened path left) now = ⊤
 GoesOn (Reading left) now = ⊤
 GoesOn Ended now = ⊤
 GoesOn (Failed left) now = ⊤
+GoesOn (Closed left) now = ⊤
 
 pub goes_on_at_first : (first : Standing) → GoesOn first first
 goes_on_at_first (Standard before) = (before, refl, refl, omega arith)
@@ -62,6 +67,7 @@ goes_on_at_first (Unopened path left) = tt
 goes_on_at_first (Reading left) = tt
 goes_on_at_first Ended = tt
 goes_on_at_first (Failed left) = tt
+goes_on_at_first (Closed left) = tt
 
 steps_of_stream : {E : Type 0} (can_open : List ℕ → Type 0) (stream : Seen) (next : Standing) (buffer : List ℕ) (r : Result ℕ E)
     → StepsTo can_open (Standard stream) next buffer r → (s : Seen) × (next ≡ Standard s) × AnswersAs stream s buffer r
@@ -70,6 +76,7 @@ steps_of_stream can_open stream (Unopened path left) buffer r steps = absurd ste
 steps_of_stream can_open stream (Reading left) buffer r steps = absurd steps
 steps_of_stream can_open stream Ended buffer r steps = absurd steps
 steps_of_stream can_open stream (Failed left) buffer r steps = absurd steps
+steps_of_stream can_open stream (Closed left) buffer r steps = absurd steps
 
 -- a read of a stream from which reads have worked
 read_more : {E : Type 0} (can_open : List ℕ → Type 0) (before : Seen) (now next : Standing) (buffer : List ℕ) (r answer : Result ℕ E) → r ≡ answer → StepsTo can_open now next buffer r → GoesOn (Standard before) now
@@ -91,6 +98,7 @@ goes_on can_open (Unopened path left) now next buffer r n is steps on = tt
 goes_on can_open (Reading left) now next buffer r n is steps on = tt
 goes_on can_open Ended now next buffer r n is steps on = tt
 goes_on can_open (Failed left) now next buffer r n is steps on = tt
+goes_on can_open (Closed left) now next buffer r n is steps on = tt
 
 -- the end was found
 pub stands_ended : {E A : Type 0} (can_open : List ℕ → Type 0) (first now next : Standing) (buffer : List ℕ) (r : Result ℕ E) (a : A) → r ≡ Ok 0 → 0 < length buffer → StepsTo can_open now next buffer r → GoesOn first now
@@ -106,6 +114,7 @@ stands_ended can_open (Unopened path left) now next buffer r a is some steps on 
 stands_ended can_open (Reading left) now next buffer r a is some steps on = tt
 stands_ended can_open Ended now next buffer r a is some steps on = tt
 stands_ended can_open (Failed left) now next buffer r a is some steps on = tt
+stands_ended can_open (Closed left) now next buffer r a is some steps on = tt
 
 -- a read has failed
 pub stands_failed : {E : Type 0} (A : Type 0) (can_open : List ℕ → Type 0) (first now next : Standing) (buffer : List ℕ) (r : Result ℕ E) (e : E) (why : Reason) → r ≡ Err e → StepsTo can_open now next buffer r → GoesOn first now
@@ -119,6 +128,7 @@ stands_failed A can_open (Unopened path left) now next buffer r e why is steps o
 stands_failed A can_open (Reading left) now next buffer r e why is steps on = tt
 stands_failed A can_open Ended now next buffer r e why is steps on = tt
 stands_failed A can_open (Failed left) now next buffer r e why is steps on = tt
+stands_failed A can_open (Closed left) now next buffer r e why is steps on = tt
 
 -- there are too many names
 pub stands_many : (A : Type 0) (first now : Standing) → GoesOn first now → StandsAfter {A = A} first now (Err unlisted.TooMany)
@@ -127,6 +137,7 @@ stands_many A (Unopened path left) now on = tt
 stands_many A (Reading left) now on = tt
 stands_many A Ended now on = tt
 stands_many A (Failed left) now on = tt
+stands_many A (Closed left) now on = tt
 
 -- memory was refused
 pub stands_refused : (A : Type 0) (first now : Standing) → GoesOn first now → StandsAfter {A = A} first now (Err unlisted.Memory)
@@ -135,6 +146,7 @@ stands_refused A (Unopened path left) now on = tt
 stands_refused A (Reading left) now on = tt
 stands_refused A Ended now on = tt
 stands_refused A (Failed left) now on = tt
+stands_refused A (Closed left) now on = tt
 
 pub stands_refused_by : (A : Type 0) (first now : Standing) (r : Result A Unlisted) → IsErrAnd r (λ e. e ≡ unlisted.Memory) → GoesOn first now → StandsAfter first now r
 stands_refused_by A first now (Ok a) is on = absurd is
@@ -147,6 +159,7 @@ stands_ok (Unopened path left) now r a b is stands = tt
 stands_ok (Reading left) now r a b is stands = tt
 stands_ok Ended now r a b is stands = tt
 stands_ok (Failed left) now r a b is stands = tt
+stands_ok (Closed left) now r a b is stands = tt
 
 read_for_err : (A B : Type 0) (before after : Seen) (why : Unlisted) → IsReadFor {A = A} before after (Err why) → IsReadFor {A = B} before after (Err why)
 read_for_err A B before after (unlisted.Unread reason) is = is
@@ -161,3 +174,4 @@ stands_err A B (Unopened path left) now r why is stands = tt
 stands_err A B (Reading left) now r why is stands = tt
 stands_err A B Ended now r why is stands = tt
 stands_err A B (Failed left) now r why is stands = tt
+stands_err A B (Closed left) now r why is stands = tt

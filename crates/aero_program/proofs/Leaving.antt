@@ -12,7 +12,7 @@ use Rattle.aero_program.specs.declared.command.Sources.TheVariants as sources
 use Rattle.aero_program.specs.declared.input.Input.{Input}
 use Rattle.aero_program.specs.declared.stamp.Stamp.{Stamp}
 use Rattle.aero_program.specs.Executed.{IsLeftBy, IsLeftOf, seen_in}
-use Rattle.aero_program.specs.Inputs.{Standing, Standard, Unopened, Reading, Ended, Failed, IsStandardOf, bytes_left, standing_of}
+use Rattle.aero_program.specs.Inputs.{Standing, Standard, Unopened, Reading, Ended, Failed, Closed, IsStandardOf, bytes_left, standing_of}
 use Rattle.aero_program.specs.Led.{IsLed, StaysStream, place_of, sight_at}
 use Rattle.aero_program.specs.Sightings.{AreNames, IsLeftBeside, source_sightings}
 
@@ -54,10 +54,12 @@ stream_left (Standard at_first) (Unopened path had) faults ends given is stays l
 stream_left (Standard at_first) (Reading had) faults ends given is stays left = absurd stays
 stream_left (Standard at_first) Ended faults ends given is stays left = absurd stays
 stream_left (Standard at_first) (Failed had) faults ends given is stays left = absurd stays
+stream_left (Standard at_first) (Closed had) faults ends given is stays left = absurd stays
 stream_left (Unopened path had) now faults ends given is stays left = absurd (cc)
 stream_left (Reading had) now faults ends given is stays left = absurd (cc)
 stream_left Ended now faults ends given is stays left = absurd (cc)
 stream_left (Failed had) now faults ends given is stays left = absurd (cc)
+stream_left (Closed had) now faults ends given is stays left = absurd (cc)
 
 -- what is left of an input that was led so, and was standard input at first
 pub left_of : {S O F : Type 0} (stdin : S → Option (List ℕ)) (known : O → List ℕ → Option (List ℕ)) (file : F → Option (List ℕ)) (can_fail : List ℕ → Type 0) (holds : List ℕ → Stamp → Option (List ℕ) → Type 0)

@@ -47,7 +47,7 @@ error_kind_send = search (sendable, crosses) depth 100 fits 60000
 
 stage_send : (S O F : RattleType) → IsSend S → IsSend O → IsSend F → IsSend (Enum (enums.shape (Stage.the_type S O F)))
 stage_send S O F s o f = enum_send (enums.shape (Stage.the_type S O F))
-    ((retrying_send S s, tt), ((o, (search (sendable, crosses) depth 40, tt)), ((f, (search (sendable, crosses, stamp_send) depth 40, tt)), ((search (sendable, crosses, stamp_send) depth 40, tt), (tt, ((error_kind_send, (o, (search (sendable, crosses) depth 40, tt))), ((error_kind_send, (search (sendable, crosses, stamp_send) depth 40, (search (sendable, crosses) depth 40, tt))), tt)))))))
+    ((retrying_send S s, tt), ((o, (search (sendable, crosses) depth 40, tt)), ((f, (search (sendable, crosses, stamp_send) depth 40, tt)), ((search (sendable, crosses, stamp_send) depth 40, tt), (tt, ((error_kind_send, (o, (search (sendable, crosses) depth 40, tt))), ((error_kind_send, (search (sendable, crosses, stamp_send) depth 40, (search (sendable, crosses) depth 40, tt))), ((search (sendable, crosses, stamp_send) depth 40, (search (sendable, crosses) depth 40, tt)), tt))))))))
 
 input_send : (S O F : RattleType) → IsSend S → IsSend O → IsSend F → IsSend (Struct (structs.shape (Input.the_type S O F)))
 input_send S O F s o f = struct_send (structs.shape (Input.the_type S O F))

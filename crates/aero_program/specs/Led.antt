@@ -1,11 +1,11 @@
 -- What an input has noted since it was made.
-use Rattle.std.specs.Prelude.{◌≡◌, ◌<◌, ℕ, true, List, take, is_some, IfSome, Option, Some, None, ⊤}
+use Rattle.std.specs.Prelude.{◌≡◌, ◌<◌, ℕ, true, false, List, take, is_some, IfSome, Option, Some, None, ⊤}
 use Rattle.aero_intake.specs.Source.{Origin, Place, Stream, File, Nowhere, Sight}
 use Rattle.aero_program.specs.declared.input.Input.{Input}
 use Rattle.aero_program.specs.declared.reason.Reason.{Reason}
 use Rattle.aero_program.specs.declared.reason.Reason.TheVariants.{NotUtf8}
 use Rattle.aero_program.specs.declared.stamp.Stamp.{Stamp}
-use Rattle.aero_program.specs.Inputs.{Standing, Standard, Unopened, Reading, Ended, Failed, bytes_left, opened_of, reason_of, standing_of, start_of}
+use Rattle.aero_program.specs.Inputs.{Standing, Standard, Unopened, Reading, Ended, Failed, Closed, bytes_left, closed_in, open_in, opened_of, reason_of, standing_of, start_of}
 use Rattle.aero_program.specs.Labels.{HasWatched, watched_in}
 use Rattle.aero_watch.specs.Watches.{unbegun}
 
@@ -16,6 +16,7 @@ place_of (Unopened path left) = File path
 place_of (Reading left) = Nowhere
 place_of Ended = Nowhere
 place_of (Failed left) = Nowhere
+place_of (Closed left) = Nowhere
 
 -- why an input can't be read, as far as that is known before: it has no path, since its name isn't UTF-8
 abbrev pub reason_at : Place → Option Reason
@@ -42,6 +43,7 @@ HasRightlyFailed can_fail place (Unopened path left) = ⊤
 HasRightlyFailed can_fail place (Reading left) = ⊤
 HasRightlyFailed can_fail place Ended = ⊤
 HasRightlyFailed can_fail place (Failed left) = MayFailAt can_fail place
+HasRightlyFailed can_fail place (Closed left) = ⊤
 
 -- the stream of standard input was never read
 abbrev pub IsUnread : Standing → Type 0
@@ -50,6 +52,7 @@ IsUnread (Unopened path left) = ⊤
 IsUnread (Reading left) = ⊤
 IsUnread Ended = ⊤
 IsUnread (Failed left) = ⊤
+IsUnread (Closed left) = ⊤
 
 -- it is standard input, and its stream has failed so often, and found the end so often
 abbrev pub HasCounted : Standing → (faults ends : ℕ) → Type 0
@@ -58,6 +61,7 @@ HasCounted (Unopened path left) faults ends = ⊥
 HasCounted (Reading left) faults ends = ⊥
 HasCounted Ended faults ends = ⊥
 HasCounted (Failed left) faults ends = ⊥
+HasCounted (Closed left) faults ends = ⊥
 
 -- the same where the input was standard input at first
 abbrev pub StaysStream : (first now : Standing) → (faults ends : ℕ) → Type 0
@@ -66,6 +70,7 @@ StaysStream (Unopened path left) now faults ends = ⊤
 StaysStream (Reading left) now faults ends = ⊤
 StaysStream Ended now faults ends = ⊤
 StaysStream (Failed left) now faults ends = ⊤
+StaysStream (Closed left) now faults ends = ⊤
 
 -- an input that wasn't opened yet stands as it did at first, and standard input was that at first
 abbrev pub IsStill : (first now : Standing) → Type 0
@@ -74,6 +79,7 @@ IsStill first (Unopened path left) = first ≡ Unopened path left
 IsStill first (Reading left) = ⊤
 IsStill first Ended = ⊤
 IsStill first (Failed left) = ⊤
+IsStill first (Closed left) = ⊤
 
 -- The input was this at first, and by reads these bytes came from it, and so many reads failed, and found the end.
 pub record IsLed {S O F : Type 0} (stdin : S → Option (List ℕ)) (known : O → List ℕ → Option (List ℕ)) (file : F → Option (List ℕ)) (can_fail : List ℕ → Type 0) (holds : List ℕ → Stamp → Option (List ℕ) → Type 0)
@@ -81,7 +87,7 @@ pub record IsLed {S O F : Type 0} (stdin : S → Option (List ℕ)) (known : O �
   pub start : start_of now ≡ take 3 came
   pub reason : faults ≡ 0 → reason_of now ≡ reason_at (place_of (standing_of stdin known file first))
   pub failed : 0 < faults → is_some (reason_of now) ≡ true
-  pub may : 0 < faults → MayFailAt can_fail (place_of (standing_of stdin known file first))
+  pub may : closed_in (standing_of stdin known file now) ≡ false → 0 < faults → MayFailAt can_fail (place_of (standing_of stdin known file first))
   pub rightly : HasRightlyFailed can_fail (place_of (standing_of stdin known file first)) (standing_of stdin known file now)
   pub stream : StaysStream (standing_of stdin known file first) (standing_of stdin known file now) faults ends
   pub labels : watched_in now.watch ≡ watched_in first.watch
@@ -104,4 +110,6 @@ sight_at stdin known file first now given faults ends = record {
   faults = faults;
   ends = ends;
   trail = Some (record { origin = origin_of stdin known file first; given = given });
+  is_open = open_in (standing_of stdin known file now);
+  closed = closed_in (standing_of stdin known file now);
 }

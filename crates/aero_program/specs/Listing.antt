@@ -8,7 +8,7 @@ use Rattle.aero_model.specs.Lines.{without_empty_last}
 use Rattle.aero_program.specs.declared.listing.Unlisted.{Unlisted}
 use Rattle.aero_program.specs.declared.listing.Unlisted.TheVariants.{Unread, TooMany, Memory}
 use Rattle.aero_program.specs.declared.reason.Reason.{Reason}
-use Rattle.aero_program.specs.Inputs.{Standing, Standard, Unopened, Reading, Ended, Failed, IsUntouched}
+use Rattle.aero_program.specs.Inputs.{Standing, Standard, Unopened, Reading, Ended, Failed, Closed, IsUntouched}
 
 abbrev pub is_name_end : ℕ → Bool
 is_name_end b = b == 0
@@ -64,6 +64,7 @@ StandsAfter (Unopened path left) after result = ⊤
 StandsAfter (Reading left) after result = ⊤
 StandsAfter Ended after result = ⊤
 StandsAfter (Failed left) after result = ⊤
+StandsAfter (Closed left) after result = ⊤
 
 -- a stream was read to its end, and no read failed
 abbrev pub IsReadOut : (left : Option Seen) → Type 0

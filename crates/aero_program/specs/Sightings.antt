@@ -1,5 +1,5 @@
 -- The names of the sources that are judged, and what contracts of a run see of them before it.
-use Rattle.std.specs.Prelude.{◌≡◌, ℕ, if◌then◌else◌, List, [], ◌∷◌, map, Option, Some, None, ⊤, codes, option_map, string_bytes, unwrap_or}
+use Rattle.std.specs.Prelude.{◌≡◌, ℕ, if◌then◌else◌, false, List, [], ◌∷◌, map, Option, Some, None, ⊤, codes, option_map, string_bytes, unwrap_or}
 use Rattle.std.specs.Str.{is_utf8}
 use Rattle.aero_telling.specs.Founds.{Sighted}
 use Rattle.aero_model.specs.CallCounts.{Seen}
@@ -19,9 +19,9 @@ AreNames known (sources.Standard name) given names = names ≡ unwrap_or (option
 AreNames known (sources.Files words) given names = names ≡ map string_bytes words.items
 AreNames known (sources.Listed path) given names = (list : List ℕ) × IsWhole (list_given known (string_bytes path) given) list × (names ≡ names_in list)
 
--- what contracts see of a reader that was just made: where it reads, the labels that it looks for, and the bytes that it has, where they are known
+-- what contracts see of a reader that was just made, and of which nothing is open: where it reads, the labels that it looks for, and the bytes that it has, where they are known
 abbrev pub made_at : Place → (labels : List (List ℕ)) → Option (List ℕ) → Sight
-made_at place labels bytes = record { bytes = bytes; faults = 0; ends = 0; trail = Some (record { origin = record { place = place; labels = labels }; given = [] }) }
+made_at place labels bytes = record { bytes = bytes; faults = 0; ends = 0; trail = Some (record { origin = record { place = place; labels = labels }; given = [] }); is_open = false; closed = false }
 
 -- the same of the file at a path
 abbrev pub file_made : (known : List ℕ → Option (List ℕ)) → (labels : List (List ℕ)) → (path : List ℕ) → Sight

@@ -21,9 +21,10 @@ use std::{io, mem};
 /// A source of bytes: standard input, read by an `S`, or the file at a path, which an `O` opens.
 ///
 /// Standard input is read for as long as somebody reads. A file is opened at the first read, and
-/// closed where a read finds its end or fails. A read after the end gives 0 bytes; after a failed
-/// open or a failed read each later read fails. So of many files that are read to their ends one
-/// after the other, one at most is open. An open or a read that is interrupted is tried again.
+/// closed where a read finds its end or fails, or by `close`. A read after the end gives 0 bytes; after a failed
+/// open, a failed read or `close` each later read fails. So of many files that are read one
+/// after the other, each to its end or until it is closed, one at most is open. An open or a read that is interrupted is
+/// tried again.
 #[derive(Drop)]
 pub struct Input<S, O: Opener> {
     stage: Stage<S, O>,
@@ -33,7 +34,7 @@ pub struct Input<S, O: Opener> {
 }
 
 // How far an input has come. A file that was opened had this stamp then, if it had one. Contracts alone see the path of one
-// that couldn't be opened, and one that couldn't be read as it was then: what it has left stays known, though it is closed.
+// that couldn't be opened, and one that couldn't be read, or was closed, as it was then: what it has left stays known.
 #[derive(Drop)]
 enum Stage<S, O: Opener> {
     Standard(Retrying<S>),
@@ -46,12 +47,14 @@ enum Stage<S, O: Opener> {
     Refused(ErrorKind, O, Snapshot<String>),
     // A read failed so.
     Failed(ErrorKind, Option<Stamp>, Snapshot<O::File>),
+    // It was closed before its end was found or a read failed.
+    Closed(Option<Stamp>, Snapshot<O::File>),
 }
 
 impl<S: Read + Drop, O: Opener + Drop> Input<S, O> {
     ghost use Rattle.std.specs.Prelude.{◌≡◌, [], Some, None, IfOk, bytes_eq, option_map, take};
     ghost use Rattle.std.specs.List.{list_any};
-    ghost use Rattle.aero_program.specs.Inputs.{opened_of, standing_of, start_of, reason_of, unopened, unread, IsStandardOf, Standard, Failed};
+    ghost use Rattle.aero_program.specs.Inputs.{opened_of, shut, standing_of, start_of, reason_of, unopened, unread, IsStandardOf, Standard, Failed};
     ghost use Rattle.aero_program.specs.Retries.{seen_within};
     ghost use Rattle.aero_program.specs.Labels.{HasWatched, missing_of, watched_in};
     ghost use Rattle.aero_watch.specs.Watches.{unbegun};
@@ -148,8 +151,21 @@ impl<S: Read + Drop, O: Opener + Drop> Input<S, O> {
             | Stage::Ended(_)
             | Stage::Unnamed
             | Stage::Refused(_, _, _)
-            | Stage::Failed(_, _, _) => None,
+            | Stage::Failed(_, _, _)
+            | Stage::Closed(_, _) => None,
         }
+    }
+
+    /// Closes its file, if one is open. Nothing else changes, but that each later read of that file fails.
+    pub fn close(&mut self)
+        ensures standing { standing_of S.remaining O.known O.File.remaining self.new ≡
+            shut (standing_of S.remaining O.known O.File.remaining self.old) }
+        ensures start { start_of self.new ≡ start_of self.old }
+        ensures reason { reason_of self.new ≡ reason_of self.old }
+        ensures opened { opened_of self.new ≡ opened_of self.old }
+        ensures watch { self.new.watch ≡ self.old.watch }
+    {
+        self.stage = mem::replace(&mut self.stage, Stage::Ended(None)).closed();
     }
 
     /// Whether the bytes that came begin with a byte order mark, EF BB BF.
@@ -178,7 +194,10 @@ impl<S: Read + Drop, O: Opener + Drop> Input<S, O> {
         ensures { result ≡ opened_of self.now }
     {
         match &self.stage {
-            Stage::Reading(_, stamp) | Stage::Ended(stamp) | Stage::Failed(_, stamp, _) => *stamp,
+            Stage::Reading(_, stamp)
+            | Stage::Ended(stamp)
+            | Stage::Failed(_, stamp, _)
+            | Stage::Closed(stamp, _) => *stamp,
             Stage::Standard(_) | Stage::Unopened(_, _) | Stage::Unnamed | Stage::Refused(_, _, _) =>
                 None,
         }
@@ -232,7 +251,7 @@ impl<S: Read + Drop, O: Opener + Drop> Stage<S, O> {
     ghost use Rattle.std.specs.Io.{ReadsAtMost};
     ghost use Rattle.std.specs.Io.KnownBytes.{ReadConsumes};
     ghost use Rattle.std.specs.Prelude.{◌≡◌, ℕ, List, IfErr};
-    ghost use Rattle.aero_program.specs.Inputs.{stage_standing, stage_opened, bytes_left, MayFailFrom, OpensTo, StepsTo, Leaves};
+    ghost use Rattle.aero_program.specs.Inputs.{shut, stage_standing, stage_opened, bytes_left, MayFailFrom, OpensTo, StepsTo, Leaves};
 
     // One read, and the stage after it.
     fn read(self, buf: &mut [u8]) -> (Stage<S, O>, io::Result<usize>)
@@ -276,6 +295,28 @@ impl<S: Read + Drop, O: Opener + Drop> Stage<S, O> {
             Stage::Failed(kind, stamp, file) => {
                 (Stage::Failed(kind, stamp, file), Err(io::Error::from(kind)))
             }
+            Stage::Closed(stamp, file) => (
+                Stage::Closed(stamp, file),
+                Err(io::Error::from(ErrorKind::Other)),
+            ),
+        }
+    }
+
+    // The stage in which its file is closed, if one was open.
+    fn closed(self) -> Stage<S, O>
+        ensures standing { stage_standing S.remaining O.known O.File.remaining result ≡
+            shut (stage_standing S.remaining O.known O.File.remaining self) }
+        ensures opened { stage_opened result ≡ stage_opened self }
+    {
+        match self {
+            Stage::Reading(file, stamp) => Stage::Closed(stamp, Snapshot::of(&file)),
+            Stage::Standard(_)
+            | Stage::Unopened(_, _)
+            | Stage::Ended(_)
+            | Stage::Unnamed
+            | Stage::Refused(_, _, _)
+            | Stage::Failed(_, _, _)
+            | Stage::Closed(_, _) => self,
         }
     }
 

@@ -94,6 +94,10 @@ impl<S: Read + Drop, O: Opener + Drop> Followed for Traced<S, O> {
         count_end(&result, buf, &mut self.ends);
         result
     }
+
+    fn close(&mut self) {
+        self.input.close();
+    }
 }
 
 // The bytes that a read gave, into this buffer.

@@ -53,7 +53,7 @@ files_rule name = record (new_rule name) {
 -- a program of this name, whose words are the arguments alone, and which tells its version
 abbrev pub no_rules : App
 no_rules = record (new_app (codes "aerodrome")) {
-  top = record (new_app (codes "aerodrome")).top { no_binary_name = true; has_version = true };
+  top = record (new_app (codes "aerodrome")).top { no_binary_name = true; has_version = true; has_long_version = true };
 }
 
 -- the program with these options

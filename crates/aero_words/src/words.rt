@@ -19,6 +19,10 @@ use clap::error::ErrorKind;
 use clap::{Arg, ArgAction, ArgMatches, Command, Error, value_parser};
 use std::alloc::{AllocError, Global};
 
+// The text behind the name that `--version` prints: the version, and the number of the kit's logic in which all is proved,
+// as the kit's own command prints it.
+const VERSION_AND_LOGIC: &str = "0.1.0\nproved in logic dac8208d650f15bf";
+
 const DEFAULT_WORKERS: u32 = 4;
 
 const DEFAULT_PIECE: u32 = 65_536;
@@ -68,6 +72,7 @@ fn bare_line<'a>(alloc: Global) -> Command<'a>
     Command::new(alloc, "aerodrome")
         .no_binary_name(true)
         .version(VERSION)
+        .long_version(VERSION_AND_LOGIC)
         .about(help::ABOUT)
         .long_about(help::LONG_ABOUT)
         .after_long_help(help::REPORT)

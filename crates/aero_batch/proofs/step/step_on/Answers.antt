@@ -27,4 +27,5 @@ returns-then-underway-sources g c =
           }))) c.read_on.ensures.reads;
       names = names_stay known sources place x c.read_on.new.reader at c.read_on.ensures.origin;
       others = others_stay known sources place x c.read_on.new.reader at;
+      waits = λ stop some. absurd (search rules);
     }

@@ -9,3 +9,4 @@ returns g c =
     fills (g.R.Followed.sight c.args.reader.now) (g.R.Followed.sight c.read.new.self) c.args.held c.args.room
     (c.args.held + c.args.room - c.args.held) c.args.buffer.now c.read.new.buf c.read.result
     within long c.requires.some c.read.ensures.bound c.read.ensures.bytes c.read.ensures.faults c.read.ensures.ends c.read.ensures.trail
+    c.read.ensures.shut c.read.ensures.closed

@@ -12,8 +12,9 @@ returns-then-stops_here-clause-stands g c before stands =
     let s = c.args.self.now in
     let terms = terms_of c.args.plan.now in
     let j = judging_of s.judge in
-    let now = g.R.Followed.sight c.args.reader.now in
+    let mid = g.R.Followed.sight c.args.reader.now in
+    let now = g.R.Followed.sight c.close.new.self in
     let stops = c.if-stops_here.true in
     subst (λ (i : Taking). StandsAlone terms before now (Some Stopped) i j) (sym c.pass_over.ensures)
-    (stop_stands terms before now s.intake j (c.stops_here.ensures.enough stops terms c.requires.on) (c.stops_here.ensures.asked_for stops)
+    (stop_stands terms before mid now s.intake j c.close.ensures (c.stops_here.ensures.enough stops terms c.requires.on) (c.stops_here.ensures.asked_for stops)
     (c.stops_here.ensures.within stops) stands)
