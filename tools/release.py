@@ -31,7 +31,7 @@ def output_of(*words):
 
 def version():
     """The version of the program."""
-    return output_of("bin/aerodrome", "--version").split()[1]
+    return output_of("bin/aerodrome", "-V").split()[1]
 
 
 def without():
