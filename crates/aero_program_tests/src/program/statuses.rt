@@ -82,20 +82,3 @@ fn each_end_has_its_status(rt: HostRuntime) {
         assert_eq!(rt; failure.status(), expected);
     }
 }
-
-// A failed write ends a run as its kind says, which the flush tells.
-#[test]
-fn a_failed_write_ends_a_run_as_its_kind_says(rt: HostRuntime) {
-    let rows = [
-        (None, ErrorKind::StorageFull, Failure::Write),
-        (None, ErrorKind::BrokenPipe, Failure::Closed),
-        (Some(Cause::Write), ErrorKind::StorageFull, Failure::Write),
-        (Some(Cause::Write), ErrorKind::BrokenPipe, Failure::Closed),
-        (Some(Cause::Memory), ErrorKind::BrokenPipe, Failure::Memory),
-    ];
-    for (cause, kind, expected) in rows {
-        let outcome = outcome_of(rt.alloc(), [1, 0, 0, 0], cause);
-        let end = status_after(&outcome, &Err(io::Error::from(kind)), false);
-        assert!(rt; end == Err(expected));
-    }
-}

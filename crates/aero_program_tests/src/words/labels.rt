@@ -1,92 +1,9 @@
-// Labels, from words and from files.
-use crate::words::{Counted, Words, are_same, first_miscounted, owned_words, settled, told_of};
+// Labels from words.
+use crate::words::{Counted, Words, first_miscounted, owned_words, settled, told_of};
 use aero_model::Name;
 use aero_program::command::{Config, Refused};
 use aero_words::words::settle_words;
 use std::alloc::{AllocError, Global};
-
-// Words, the files of labels that they name for blocks that are no transactions and for the only ones that are, and whether
-// an input is read no further once its verdict is certain.
-type FromFiles = (Words, Words, Words, bool);
-
-fn has_label_files(alloc: Global, row: &FromFiles) -> bool {
-    let Ok(config) = settled(alloc, row.0) else {
-        return false;
-    };
-    let are_so = are_same(&config.except_from, row.1) && are_same(&config.only_from, row.2);
-    are_so && config.stop == row.3
-}
-
-// The first row that doesn't hold.
-fn first_without_files(alloc: Global, rows: &[FromFiles]) -> Option<usize> {
-    for i in 0..rows.len() {
-        if !has_label_files(alloc, &rows[i]) {
-            return Some(i);
-        }
-    }
-    None
-}
-
-static FROM_FILES: [FromFiles; 6] = [
-    (&["--except", "a"], &[], &[], false),
-    (
-        &["--except-from", "b", "--except", "a", "--except-from", "a"],
-        &["b", "a"],
-        &[],
-        false,
-    ),
-    (&["--only-from=a", "--stop", "b"], &[], &["a"], true),
-    (&["--only", "a", "--only-from", ""], &[], &[""], false),
-    (&["--except-from", "./-"], &["./-"], &[], false),
-    (&["--", "--except-from", "--stop"], &[], &[], false),
-];
-
-#[test]
-fn the_files_of_labels(rt: HostRuntime) {
-    assert_eq!(rt; first_without_files(rt.alloc(), &FROM_FILES), None);
-}
-
-// Words, whether an input is read no further once its verdict is certain, and whether open blocks end.
-type Ends = (Words, bool, bool);
-
-static ENDS: [Ends; 5] = [
-    (&[], false, false),
-    (&["--stop"], true, false),
-    (&["--end"], false, true),
-    (&["--end", "a", "--stop"], true, true),
-    (&["--", "--end"], false, false),
-];
-
-fn ends_so(alloc: Global, (words, stop, end): Ends) -> bool {
-    match settled(alloc, words) {
-        Ok(config) => config.stop == stop && config.end == end,
-        Err(_) => false,
-    }
-}
-
-#[test]
-fn where_inputs_and_blocks_end(rt: HostRuntime) {
-    for row in ENDS {
-        assert!(rt; ends_so(rt.alloc(), row));
-    }
-}
-
-// How often the option with a file of labels may be given: 64 times.
-fn files_taken(alloc: Global, option: &str, times: usize) -> Option<bool> {
-    let mut words = Vec::new(alloc);
-    for _ in 0..times {
-        words.push(option).ok()?;
-    }
-    Some(settled(alloc, &words).is_ok())
-}
-
-#[test]
-fn as_many_files_of_labels_as_may_be_given(rt: HostRuntime) {
-    assert!(rt; files_taken(rt.alloc(), "--except-from=a", 64) == Some(true));
-    assert!(rt; files_taken(rt.alloc(), "--except-from=a", 65) == Some(false));
-    assert!(rt; files_taken(rt.alloc(), "--only-from=a", 64) == Some(true));
-    assert!(rt; files_taken(rt.alloc(), "--only-from=a", 65) == Some(false));
-}
 
 fn are_labels(labels: &[Name], wanted: &[&str]) -> bool {
     let mut are_same = labels.len() == wanted.len();
