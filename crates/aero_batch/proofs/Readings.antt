@@ -387,24 +387,24 @@ now_stopped : (terms : Terms) (old now after : List Sighted) (p : Underway) (tal
     IsReadFrom now after p.read before_read after_read → Closes before_read after_read → p.ended ≡ None → terms.stop ≡ true → p.intake.passed ≡ true →
     p.intake.count ≤ terms.rules.limits.bytes → Holds terms old now p tale → Holds terms old after (record p { ended = Some Stopped }) tale
 now_stopped terms old now after p tale before_read after_read from closes reading asked_for passed within holds =
-  let bytes = concat (tale p.read).pieces ++ p.intake.held in
-  let limit = terms.rules.limits.bytes in record {
-  apart = holds.apart;
-  tracked = holds.tracked;
-  ended = λ s below. ended_stays terms old now after p.read s (tale s) from.others (λ e. omega (arith, below, e)) (holds.ended s below);
-  cut = holds.cut;
-  taken = holds.taken;
-  enough = holds.enough;
-  passed = holds.passed;
-  stopped = λ e. (asked_for, passed);
-  come = come_on terms old now after p.read before_read after_read bytes bytes p.ended (Some Stopped) from
-      (λ first come. source_was_stopped first before_read after_read limit p.intake.count bytes
-      (subst (λ e. HasCome first before_read limit bytes e) reading come) closes holds.taken.count within)
-      holds.come;
-  asked = holds.asked;
-  not_ended = holds.not_ended;
-  later = λ s above. ((holds.later s above).0, from.others s (λ e. omega (arith, above, e)) ∙ (holds.later s above).1);
-}
+    let bytes = concat (tale p.read).pieces ++ p.intake.held in
+    let limit = terms.rules.limits.bytes in record {
+      apart = holds.apart;
+      tracked = holds.tracked;
+      ended = λ s below. ended_stays terms old now after p.read s (tale s) from.others (λ e. omega (arith, below, e)) (holds.ended s below);
+      cut = holds.cut;
+      taken = holds.taken;
+      enough = holds.enough;
+      passed = holds.passed;
+      stopped = λ e. (asked_for, passed);
+      come = come_on terms old now after p.read before_read after_read bytes bytes p.ended (Some Stopped) from
+          (λ first come. source_was_stopped first before_read after_read limit p.intake.count bytes
+          (subst (λ e. HasCome first before_read limit bytes e) reading come) closes holds.taken.count within)
+          holds.come;
+      asked = holds.asked;
+      not_ended = holds.not_ended;
+      later = λ s above. ((holds.later s above).0, from.others s (λ e. omega (arith, above, e)) ∙ (holds.later s above).1);
+    }
 
 -- the source is read no further
 pub stopping_holds : (terms : Terms) (old now after : List Sighted) (p q : Underway) (tale : ℕ → Story) (before_read after_read : Sight) →
