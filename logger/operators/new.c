@@ -1,7 +1,7 @@
 /* operator new of an allocator that a C++ program is linked with, or that LD_PRELOAD names: what it gives is new variables. That of the
  * C++ library calls malloc, which the logger knows already.
  *
- * It is an object of its own. A program that contains the C++ library (-static-libstdc++) is linked without this one, which would be
+ * It is an object of its own. A program that contains the C++ library (-static-libstdc++, libstdc++.a) is linked without this one, which would be
  * found in the place of the library's operator. */
 #define _GNU_SOURCE
 #include <dlfcn.h>
@@ -27,29 +27,38 @@ static void *renewed(void *at, size_t bytes) {
     return at;
 }
 
-/* Without a next operator there is no C++ library, so that nobody could catch what it throws. */
-static void *without_library(size_t bytes) {
-    void *at = malloc(bytes ? bytes : 1);
+/* Without a next operator the program contains the C++ library, and the linker has taken this operator in the place of that one, as mold
+ * does with -Wl,-Bstatic,-lstdc++. It may have left out what throws: then the program ends where it has no memory. */
+extern void _ZSt17__throw_bad_allocv(void) __attribute__((weak));
+static void *or_throw(void *at) {
+    if (!at && _ZSt17__throw_bad_allocv) _ZSt17__throw_bad_allocv();
     if (!at) abort();
     return at;
 }
+static void *some(size_t bytes) { return malloc(bytes ? bytes : 1); }
+static void *aligned(size_t bytes, size_t alignment) {
+    size_t whole = (bytes + alignment - !!bytes) & -alignment;
+    return whole < bytes ? NULL : aligned_alloc(alignment, whole);
+}
 
-#define NEW(name, arguments, ...) \
+#define NEW(name, without_next, arguments, ...) \
     __attribute__((visibility("default"), weak)) void *name(__VA_ARGS__) { \
         static void *(*_Atomic next)(__VA_ARGS__); \
         void *(*real)(__VA_ARGS__) = atomic_load_explicit(&next, memory_order_relaxed); \
         if (!real) { \
             *(void **)&real = dlsym(RTLD_NEXT, #name); \
-            if (!real) return without_library(bytes); \
+            if (!real) return without_next; \
             atomic_store_explicit(&next, real, memory_order_relaxed); \
         } \
         return renewed(real arguments, bytes); \
     }
-NEW(_Znwm, (bytes), size_t bytes)
-NEW(_Znam, (bytes), size_t bytes)
-NEW(_ZnwmRKSt9nothrow_t, (bytes, none), size_t bytes, const void *none)
-NEW(_ZnamRKSt9nothrow_t, (bytes, none), size_t bytes, const void *none)
-NEW(_ZnwmSt11align_val_t, (bytes, alignment), size_t bytes, size_t alignment)
-NEW(_ZnamSt11align_val_t, (bytes, alignment), size_t bytes, size_t alignment)
-NEW(_ZnwmSt11align_val_tRKSt9nothrow_t, (bytes, alignment, none), size_t bytes, size_t alignment, const void *none)
-NEW(_ZnamSt11align_val_tRKSt9nothrow_t, (bytes, alignment, none), size_t bytes, size_t alignment, const void *none)
+NEW(_Znwm, or_throw(some(bytes)), (bytes), size_t bytes)
+NEW(_Znam, or_throw(some(bytes)), (bytes), size_t bytes)
+NEW(_ZnwmRKSt9nothrow_t, some(bytes), (bytes, none), size_t bytes, const void *none)
+NEW(_ZnamRKSt9nothrow_t, some(bytes), (bytes, none), size_t bytes, const void *none)
+NEW(_ZnwmSt11align_val_t, or_throw(aligned(bytes, alignment)), (bytes, alignment), size_t bytes, size_t alignment)
+NEW(_ZnamSt11align_val_t, or_throw(aligned(bytes, alignment)), (bytes, alignment), size_t bytes, size_t alignment)
+NEW(_ZnwmSt11align_val_tRKSt9nothrow_t, aligned(bytes, alignment), (bytes, alignment, none),
+    size_t bytes, size_t alignment, const void *none)
+NEW(_ZnamSt11align_val_tRKSt9nothrow_t, aligned(bytes, alignment), (bytes, alignment, none),
+    size_t bytes, size_t alignment, const void *none)
