@@ -427,6 +427,14 @@ fn three_sources<'a>(
     Ok(sources)
 }
 
+// Two sources of this text.
+fn two_sources<'a>(text: &'a [u8], alloc: Global) -> Result<Vec<Source<&'a [u8]>>, AllocError> {
+    let mut sources = Vec::new(alloc);
+    sources.push(source_of(alloc, "n", text)?)?;
+    sources.push(source_of(alloc, "n", text)?)?;
+    Ok(sources)
+}
+
 // Three sources, in pieces of one byte: the report, and what was asked.
 fn expect_three<T: Abort + AllocGlobal + Threads + Wait + Copy + Send + 'static>(
     rt: &T,

@@ -1,7 +1,7 @@
 // Runs with a crew, under gates.
 use crate::batch::runs::{Who, plan_by, run_gated};
 use crate::batch::{
-    CLOSED_BY_AN_END, CROSSED, REPORT_OF_THREE, lines_of, source_of, three_sources,
+    CLOSED_BY_AN_END, CROSSED, REPORT_OF_THREE, lines_of, three_sources, two_sources,
 };
 use aero_batch::outcome::Outcome;
 use aero_intake::plan::Plan;
@@ -183,9 +183,7 @@ fn violations_under<T: AllocGlobal + Threads + Wait + Copy + Send + 'static>(
         ("", false),
     )?;
     let crossed = lines_of(rt.alloc(), CROSSED)?;
-    let mut sources = Vec::new(rt.alloc());
-    sources.push(source_of(rt.alloc(), "n", crossed.as_slice())?)?;
-    sources.push(source_of(rt.alloc(), "n", crossed.as_slice())?)?;
+    let mut sources = two_sources(&crossed, rt.alloc())?;
     let (_, outcome) = report_under(rt, gate, &mut sources, &plan)?;
     Ok((outcome.counts.violations, outcome.tally.done_here))
 }
