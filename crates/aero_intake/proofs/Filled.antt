@@ -13,7 +13,7 @@ use borrow.Rule.Slice.PartMut.{put_mid, post_of, take_put}
 use lib.Seq.{take-add, take-append-le}
 use Rattle.aero_model.specs.declared.verdict.Ending.TheVariants.{Whole}
 use Rattle.aero_model.specs.CallCounts.{moves_nothing}
-use Rattle.aero_intake.specs.Source.{gained, is_last_read, Sight, Trails, WasRead}
+use Rattle.aero_intake.specs.Source.{faults_by, gained, is_last_read, Sight, Trails, WasRead}
 use Rattle.aero_intake.specs.Intake.{Fills, FillsWith}
 
 -- what was read into the part stands behind what is held
@@ -24,7 +24,7 @@ behind_front a k n xs ys within fits =
     ∙ ap (λ b. take a xs ++ b) (take-append-le n ys (post_of a k xs) fits)
 
 pub fills : {E : Type 0} (before after : Sight) (held room k : ℕ) (xs ys : List ℕ) (r : Result ℕ E) → held ≤ length xs → length ys ≡ room → 0 < room →
-    ReadsAtMost r ys → ReadConsumes before.bytes after.bytes r ys → after.faults ≡ before.faults + (if is_err r then 1 else 0) →
+    ReadsAtMost r ys → ReadConsumes before.bytes after.bytes r ys → after.faults ≡ before.faults + faults_by (is_err r) before.closed →
     after.ends ≡ before.ends + (if moves_nothing r ys then 1 else 0) → Trails before.trail after.trail (gained r ys) →
     (is_last_read r ys ≡ true → after.is_open ≡ false) → after.closed ≡ before.closed → Fills before after held room xs (put_mid held k xs ys) r
 fills before after held room k xs [] (Ok zero) within long some bound bytes faults ends trail shut closed = absurd (omega (arith, long, some))

@@ -1,5 +1,5 @@
 -- A source as far as it was read.
-use Rattle.std.proofs.Common.{◌≡◌, ℕ, ◌+◌, ◌≤◌, List, [], ◌∷◌, ◌++◌, length, refl, sym, ◌∙◌, ap, ap₂, subst, append_assoc, false, arith, Option, Some, None}
+use Rattle.std.proofs.Common.{◌≡◌, ℕ, ◌+◌, ◌≤◌, List, [], ◌∷◌, ◌++◌, length, refl, sym, ◌∙◌, ap, ap₂, subst, append_assoc, true, false, arith, Option, Some, None}
 use Rattle.std.proofs.lemmas.List.{append-nil, length-append}
 use Rattle.std.proofs.KnownBytes.{Consumes-nil, Consumes-trans}
 use Rattle.std.specs.Prelude.{option_to_list}
@@ -8,7 +8,7 @@ use Rattle.std.specs.Io.KnownBytes.{Consumes}
 use Rattle.aero_model.specs.declared.verdict.Ending.{Ending}
 use Rattle.aero_model.specs.declared.verdict.Ending.TheVariants.{Whole, Broken, TooLarge, Stopped}
 use Rattle.aero_lines.specs.Cutting.{Cutting, nothing_yet, fed, block_of, last_block, blocks_from}
-use Rattle.aero_intake.specs.Source.{Closes, Sight, Trail, Trails, WasRead}
+use Rattle.aero_intake.specs.Source.{faults_by, Closes, Sight, Trail, Trails, WasRead}
 use Rattle.aero_intake.specs.Intake.{Taking, nothing_taken, with_piece, with_cut, with_passing, fed_all, chunks_so_far, IsTaken, HaveCome, Ends}
 
 fed_all-more : (c : Cutting) (pieces : List (List ℕ)) (piece : List ℕ) → fed_all c (pieces ++ piece ∷ []) ≡ fed (fed_all c pieces) piece
@@ -126,7 +126,7 @@ source_was_read before mid after limit count bytes Broken have is ends = record 
       (Consumes-trans before.bytes mid.bytes after.bytes bytes [] have.came ends.0.came);
   trail = subst (λ bs. Trails before.trail after.trail bs) (append-nil bytes)
       (trails_more before.trail mid.trail after.trail bytes [] have.trail ends.0.trail);
-  faults = omega (arith, ends.0.faults, have.quiet.faults);
+  faults = ends.0.faults ∙ ap₂ (λ n c. n + faults_by true c) have.quiet.faults have.quiet.closed;
   ends = omega (arith, ends.0.ends, have.quiet.ends);
   fits = subst (λ n. n ≤ limit) is ends.1;
   rest = tt;

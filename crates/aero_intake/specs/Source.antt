@@ -51,6 +51,10 @@ gained (Err e) buffer = []
 abbrev pub is_last_read : {E : Type 0} → Result ℕ E → List ℕ → Bool
 is_last_read result buffer = is_err result || moves_nothing result buffer
 
+-- 1 for a read that failed, unless its reader was closed: a closed reader reads nothing any more, so that its failure isn't counted
+abbrev pub faults_by : (failed closed : Bool) → ℕ
+faults_by failed closed = if failed then (if closed then 0 else 1) else 0
+
 -- Nothing of the reader is open any more, and nothing else is seen to have changed, but that it may have been closed.
 pub record Closes (before after : Sight) : Type 0 where
   pub bytes : after.bytes ≡ before.bytes
@@ -87,13 +91,13 @@ ClosedBy Whole before after = after.closed ≡ before.closed
 ClosedBy Broken before after = after.closed ≡ before.closed
 ClosedBy ending before after = ⊤
 
--- These bytes came from the reader, and then the reading ended so: by one failed read exactly where the source is broken, by one end exactly where it
--- is whole, and then nothing is left. Of a source that is read no further all that came was read, and nothing is said of what is left. Whatever the
--- ending, no file of the reader is open any more.
+-- These bytes came from the reader, and then the reading ended so: by one failed read exactly where the source is broken (counted unless the reader was
+-- closed before), by one end exactly where it is whole, and then nothing is left. Of a source that is read no further all that came was read, and
+-- nothing is said of what is left. Whatever the ending, no file of the reader is open any more.
 pub record WasRead (before after : Sight) (limit : ℕ) (bytes : List ℕ) (ending : Ending) : Type 0 where
   pub came : Consumes before.bytes after.bytes bytes
   pub trail : Trails before.trail after.trail bytes
-  pub faults : after.faults ≡ before.faults + (if is_broken ending then 1 else 0)
+  pub faults : after.faults ≡ before.faults + faults_by (is_broken ending) before.closed
   pub ends : after.ends ≡ before.ends + (if is_whole ending then 1 else 0)
   pub fits : FitsLimit limit ending (length bytes)
   pub rest : NothingIsLeft ending after.bytes

@@ -11,7 +11,7 @@ pub trait Followed {
     ghost use Rattle.std.specs.Io.{ReadsAtMost};
     ghost use Rattle.std.specs.Io.KnownBytes.{ReadConsumes};
     ghost use Rattle.aero_model.specs.CallCounts.{moves_nothing};
-    ghost use Rattle.aero_intake.specs.Source.{gained, is_last_read, Closes, Sight, Trails};
+    ghost use Rattle.aero_intake.specs.Source.{faults_by, gained, is_last_read, Closes, Sight, Trails};
 
     ghost sight: { Self → Sight };
 
@@ -20,7 +20,7 @@ pub trait Followed {
         ensures bound { ReadsAtMost result buf.new }
         ensures bytes { ReadConsumes (sight self.old).bytes (sight self.new).bytes result buf.new }
         ensures faults { (sight self.new).faults ≡
-            (sight self.old).faults + (if is_err result then 1 else 0) }
+            (sight self.old).faults + faults_by (is_err result) (sight self.old).closed }
         ensures ends { (sight self.new).ends ≡
             (sight self.old).ends + (if moves_nothing result buf.new then 1 else 0) }
         ensures trail { Trails (sight self.old).trail (sight self.new).trail (gained result buf.new) }

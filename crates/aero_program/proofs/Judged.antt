@@ -24,7 +24,7 @@ use Rattle.aero_program.specs.LabelFiles.{AreListed}
 use Rattle.aero_program.specs.Notes.{AreOwn, AreShown, Remark, label_lines, note_texts, noted_of_all, notes_on}
 use Rattle.aero_program.proofs.Noting.{are_notable, are_noted}
 use Rattle.aero_program.specs.Sightings.{AreNames, sightings, source_made, source_sightings}
-use Rattle.aero_program.specs.Status.{end_of_run}
+use Rattle.aero_program.specs.Status.{end_checked, end_of_run}
 use Rattle.aero_program.specs.Streams.{Shown, WasFlushed}
 
 names_of_sightings : (made : List ℕ → Sight) (names : List (List ℕ)) → map (λ s. s.name) (sightings made names) ≡ names
@@ -58,7 +58,7 @@ pub judged : {R S O F : Type 0} (input : R → Input S O F) (missing : R → Lis
     → AreOwn can_fail holds (map (sighted sight) new) (noted_of_all input missing (are_words config.files) new (if config.long then [] else endings) notables)
     → IsLeftBy config.files given (map (sighted sight) new) left
     → WasRunTo terms made (summary_line_in made (options_told config terms (unused_of listed None endings (noted_of_all input missing (are_words config.files) new (if config.long then [] else endings) notables)) (notes_on remarks))) were (map (sighted sight) new) before.writer between.writer endings notables counts cause
-    → between.unflushed ≡ before.unflushed → WasFlushed between after fault → end ≡ end_of_run config.fail_open cause counts fault
+    → between.unflushed ≡ before.unflushed → WasFlushed between after fault → end ≡ end_checked config.fail_unchecked notables (end_of_run config.fail_open cause counts fault)
     → Ends (note_texts config.terminals.errors (notes_on remarks) ++ label_lines config.terminals.errors (unused_of listed cause endings (noted_of_all input missing (are_words config.files) new (if config.long then [] else endings) notables))) end told told_after status
     → WasJudged paths can_fail holds config given left before after told told_after status
 judged input missing sight paths can_fail holds config listed given left limits names new were before between after endings notables counts cause fault end told told_after status terms made

@@ -150,11 +150,11 @@ may_from can_fail first Ended unclosed still rightly may = absurd may
 may_from can_fail first (Failed left) unclosed still rightly may = rightly
 may_from can_fail first (Closed left) unclosed still rightly may = absurd (true≢false unclosed)
 
-may_on : {E : Type 0} (can_fail : List ℕ → Type 0) (first old new : Standing) (faults : ℕ) (r : Result ℕ E) → closed_in new ≡ closed_in old → IsStill first old
-    → HasRightlyFailed can_fail (place_of first) old → IfErr r (λ _. MayFailFrom can_fail old) → (closed_in old ≡ false → 0 < faults → MayFailAt can_fail (place_of first))
-    → closed_in new ≡ false → 0 < faults + (if is_err r then 1 else 0) → MayFailAt can_fail (place_of first)
-may_on can_fail first old new faults (Ok n) stays still rightly fails was unclosed some = was (sym stays ∙ unclosed) (omega (arith, some))
-may_on can_fail first old new faults (Err e) stays still rightly fails was unclosed some = may_from can_fail first old (sym stays ∙ unclosed) still rightly fails
+may_on : {E : Type 0} (can_fail : List ℕ → Type 0) (first old : Standing) (faults : ℕ) (r : Result ℕ E) → closed_in old ≡ false → IsStill first old
+    → HasRightlyFailed can_fail (place_of first) old → IfErr r (λ _. MayFailFrom can_fail old) → (0 < faults → MayFailAt can_fail (place_of first))
+    → 0 < faults + (if is_err r then 1 else 0) → MayFailAt can_fail (place_of first)
+may_on can_fail first old faults (Ok n) unclosed still rightly fails was some = was (omega (arith, some))
+may_on can_fail first old faults (Err e) unclosed still rightly fails was some = may_from can_fail first old unclosed still rightly fails
 
 -- an input fails only at a read that fails
 rightly_on : {E : Type 0} (can_open can_fail : List ℕ → Type 0) (first old new : Standing) (buffer : List ℕ) (r : Result ℕ E) → StepsTo can_open old new buffer r → IsStill first old
@@ -239,7 +239,7 @@ merely_led_new stdin known file can_fail holds input first given faults ends fir
       start = start;
       reason = λ _. reason;
       failed = λ some. absurd (omega (arith, some));
-      may = λ _ some. absurd (omega (arith, some));
+      may = λ some. absurd (omega (arith, some));
       rightly = rightly_new can_fail (standing_of stdin known file input);
       stream = stream_new (standing_of stdin known file input) unread;
       labels = refl;
@@ -252,9 +252,10 @@ merely_led_new stdin known file can_fail holds input first given faults ends fir
     (subst (λ n. IsLed stdin known file can_fail holds input input [] n ends) (sym faults_are)
     (subst (λ n. IsLed stdin known file can_fail holds input input [] 0 n) (sym ends_are) made))))
 
--- what one read of an input does, as its contract says
+-- what one read of an input does that wasn't closed, as its contract says
 pub record WasReadOnce {S O F E : Type 0} (stdin : S → Option (List ℕ)) (known : O → List ℕ → Option (List ℕ)) (file : F → Option (List ℕ)) (can_open can_fail : List ℕ → Type 0)
     (holds : List ℕ → Stamp → Option (List ℕ) → Type 0) (number : E → Option ℤ) (old new : Input S O F) (r : Result ℕ E) (buffer : List ℕ) : Type 0 where
+  pub unclosed : closed_in (standing_of stdin known file old) ≡ false
   pub steps : StepsTo can_open (standing_of stdin known file old) (standing_of stdin known file new) buffer r
   pub fails : IfErr r (λ _. MayFailFrom can_fail (standing_of stdin known file old))
   pub opens : OpensTo holds (standing_of stdin known file old) (opened_of old) (opened_of new)
@@ -276,7 +277,7 @@ module _ {S O F E : Type 0} (stdin : S → Option (List ℕ)) (known : O → Lis
         start = start_on (start_of old) came r buffer (start_of new) led.start once.starts;
         reason = reason_on number faults (place_of at_first) (reason_of old) (reason_of new) r led.reason once.reasons;
         failed = failed_on number faults (reason_of old) (reason_of new) r led.failed once.reasons;
-        may = may_on can_fail at_first before after faults r (closed_stays can_open before after buffer r once.steps) led.still led.rightly once.fails led.may;
+        may = may_on can_fail at_first before faults r once.unclosed led.still led.rightly once.fails led.may;
         rightly = rightly_on can_open can_fail at_first before after buffer r once.steps led.still led.rightly once.fails;
         stream = stream_on can_open at_first before after buffer r faults ends once.steps led.stream;
         labels = once.watched ∙ led.labels;
@@ -312,15 +313,6 @@ nothing_open (Reading left) = refl
 nothing_open Ended = refl
 nothing_open (Failed left) = refl
 nothing_open (Closed left) = refl
-
--- one that isn't closed by that wasn't closed before
-unclosed_before : (s : Standing) → closed_in (shut s) ≡ false → closed_in s ≡ false
-unclosed_before (Standard reader) is = is
-unclosed_before (Unopened path left) is = is
-unclosed_before (Reading left) is = refl
-unclosed_before Ended is = is
-unclosed_before (Failed left) is = is
-unclosed_before (Closed left) is = is
 
 rightly_shut : (can_fail : List ℕ → Type 0) (place : Place) (s : Standing) → HasRightlyFailed can_fail place s → HasRightlyFailed can_fail place (shut s)
 rightly_shut can_fail place (Standard reader) is = is
@@ -366,7 +358,7 @@ merely_led_shut stdin known file can_fail holds first old new came faults ends s
       start = start ∙ l.start;
       reason = λ none. reason ∙ l.reason none;
       failed = λ some. ap is_some reason ∙ l.failed some;
-      may = λ unclosed some. l.may (unclosed_before before (ap closed_in (sym standing) ∙ unclosed)) some;
+      may = l.may;
       rightly = subst (HasRightlyFailed can_fail (place_of at_first)) (sym standing) (rightly_shut can_fail (place_of at_first) before l.rightly);
       stream = subst (λ (s : Standing). StaysStream at_first s faults ends) (sym standing) (stream_shut at_first before faults ends l.stream);
       labels = ap watched_in watch ∙ l.labels;

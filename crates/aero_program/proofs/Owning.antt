@@ -19,7 +19,7 @@ the_some x y p = cc p
 pub noted_by : {R S O F : Type 0} (stdin : S → Option (List ℕ)) (known : O → List ℕ → Option (List ℕ)) (file : F → Option (List ℕ)) (can_fail : List ℕ → Type 0) (holds : List ℕ → Stamp → Option (List ℕ) → Type 0)
     (input : R → Input S O F) (unused : R → List (List ℕ)) (source : SourceOf R) (words too_large : Bool) (notable : Option Notable) (first : Input S O F) (given : List ℕ) (faults ends : ℕ)
     → unused source.reader ≡ unbegun_in first given → ∥ IsLed stdin known file can_fail holds first (input source.reader) given faults ends ∥₁
-    → IsNotedBy can_fail holds (noted_of input unused words source too_large notable) faults (sight_at stdin known file first (input source.reader) given faults ends).closed (sight_at stdin known file first (input source.reader) given faults ends).trail
+    → IsNotedBy can_fail holds (noted_of input unused words source too_large notable) faults (sight_at stdin known file first (input source.reader) given faults ends).trail
 noted_by stdin known file can_fail holds input unused source words too_large notable first given faults ends missing led = ∥∥₁_elim led squash₁ (λ l. merely (record {
   start = l.start;
   reason = l.reason;
@@ -30,11 +30,11 @@ noted_by stdin known file can_fail holds input unused source words too_large not
 }))
 
 module _ {R S O F : Type 0} (input : R → Input S O F) (unused : R → List (List ℕ)) (sight : R → Sight) (can_fail : List ℕ → Type 0) (holds : List ℕ → Stamp → Option (List ℕ) → Type 0) (words : Bool)
-    (each : (source : SourceOf R) (too_large : Bool) (notable : Option Notable) → IsNotedBy can_fail holds (noted_of input unused words source too_large notable) (sight source.reader).faults (sight source.reader).closed (sight source.reader).trail) where
-  here : (made n : Noted) (seen s : Sighted) → Some made ≡ Some n → Some seen ≡ Some s → IsNotedBy can_fail holds made seen.reader.faults seen.reader.closed seen.reader.trail → IsNotedBy can_fail holds n s.reader.faults s.reader.closed s.reader.trail
+    (each : (source : SourceOf R) (too_large : Bool) (notable : Option Notable) → IsNotedBy can_fail holds (noted_of input unused words source too_large notable) (sight source.reader).faults (sight source.reader).trail) where
+  here : (made n : Noted) (seen s : Sighted) → Some made ≡ Some n → Some seen ≡ Some s → IsNotedBy can_fail holds made seen.reader.faults seen.reader.trail → IsNotedBy can_fail holds n s.reader.faults s.reader.trail
   here made n seen s noted_is seen_is own =
-      subst (λ (x : Noted). IsNotedBy can_fail holds x s.reader.faults s.reader.closed s.reader.trail) (the_some made n noted_is)
-      (subst (λ (x : Sighted). IsNotedBy can_fail holds made x.reader.faults x.reader.closed x.reader.trail) (the_some seen s seen_is) own)
+      subst (λ (x : Noted). IsNotedBy can_fail holds x s.reader.faults s.reader.trail) (the_some made n noted_is)
+      (subst (λ (x : Sighted). IsNotedBy can_fail holds made x.reader.faults x.reader.trail) (the_some seen s seen_is) own)
 
   pub are_own : (sources : List (SourceOf R)) (endings : List (ℕ × Ending)) (notables : List (Option Notable))
       → AreOwn can_fail holds (map (sighted sight) sources) (noted_of_all input unused words sources endings notables)

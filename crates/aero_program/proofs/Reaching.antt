@@ -1,5 +1,5 @@
 -- What is told of sources whose bytes are known.
-use Rattle.std.proofs.Common.{◌≡◌, ◌∙◌, ◌+◌, ◌≤◌, ℕ, zero, suc, true, false, if◌then◌else◌, List, [], ◌∷◌, ◌++◌, length, length-append, take, Option, None, Some, IfSome, ap, ap₂, sym, subst, refl, arith, slice_get, inl, inr}
+use Rattle.std.proofs.Common.{◌≡◌, ◌∙◌, ◌+◌, ◌≤◌, ℕ, zero, suc, true, if◌then◌else◌, List, [], ◌∷◌, ◌++◌, length, length-append, take, Option, None, Some, IfSome, ap, ap₂, sym, subst, refl, arith, slice_get, inl, inr}
 use Rattle.std.proofs.Math.Logic.{∥∥₁_elim}
 use Rattle.std.proofs.lemmas.Grind.{merely}
 use Rattle.std.proofs.lemmas.List.{append-nil}
@@ -8,7 +8,7 @@ use Rattle.std.specs.Io.KnownBytes.{Consumes}
 use Rattle.aero_model.specs.declared.verdict.Ending.{Ending}
 use Rattle.aero_model.specs.declared.verdict.Ending.TheVariants.{Whole, Broken, TooLarge, Stopped}
 use Rattle.aero_telling.specs.Founds.{Found}
-use Rattle.aero_intake.specs.Source.{ClosedBy, FitsLimit, NothingIsLeft, Origin, File, Sight, Trail, Trails, WasRead, is_broken}
+use Rattle.aero_intake.specs.Source.{FitsLimit, NothingIsLeft, Origin, File, Sight, Trail, Trails, WasRead, is_broken}
 use Rattle.aero_judge.specs.Finding.{IsCertainFinding, IsFinding}
 use Rattle.aero_model.specs.Terms.{Terms}
 use Rattle.aero_watch.specs.Watches.{unbegun}
@@ -67,15 +67,14 @@ module _ (can_fail : List ℕ → Type 0) (holds : List ℕ → Stamp → Option
     (found : Found) (n : Noted) (text : List ℕ) (after : Sight) (is : known found.name ≡ Some text) (never : can_fail found.name → ⊥) (few : length text ≤ terms.rules.limits.bytes)
     (read : WasRead (file_made known labels found.name) after terms.rules.limits.bytes found.bytes found.ending) (finding : IsFinding found.bytes found.ending terms found.finding) where
   -- the source was read to its end, where no read of it may fail, or no further than is asked for
-  of_text : (t : Trail) → t.origin ≡ record { place = File found.name; labels = labels } → t.given ≡ found.bytes → IsNotedFrom can_fail holds n after.faults after.closed t →
+  of_text : (t : Trail) → t.origin ≡ record { place = File found.name; labels = labels } → t.given ≡ found.bytes → IsNotedFrom can_fail holds n after.faults t →
       IsOfText terms labels text found n ⊎ IsOfFront terms text found
   of_text t made came own =
       let at : t.origin.place ≡ File found.name = ap (λ (o : Origin). o.place) made in
       let front = front_of text found.bytes after.bytes found.ending (subst (λ b. Consumes b after.bytes found.bytes) is read.came) read.rest in
       let unbroken : found.ending ≡ Broken → ⊥ = λ broken.
       let failed : after.faults ≡ 1 = read.faults ∙ ap (λ (e : Ending). 0 + (if is_broken e then 1 else 0)) broken in
-      let unclosed : after.closed ≡ false = subst (λ (e : Ending). ClosedBy e (file_made known labels found.name) after) broken read.closed in
-      never (subst (MayFailAt can_fail) at (own.may unclosed (omega (arith, failed)))) in
+      never (subst (MayFailAt can_fail) at (own.may (omega (arith, failed)))) in
       elim (whole_of text found.bytes terms.rules.limits.bytes found.ending front few read.fits unbroken) [
         | inl ended ↦
             (let none : after.faults ≡ 0 = read.faults ∙ ap (λ (e : Ending). 0 + (if is_broken e then 1 else 0)) ended.0 in
@@ -108,6 +107,6 @@ known_files_are_judged can_fail holds known config given left shown shown_after 
     ∙ made_for_word known labels config.files given here.before.name words ∙ ap (file_made known labels) (sym here.found_of.name) in
     let read = subst (λ r. WasRead r here.after.reader was.limits.bytes found.bytes found.ending) made here.found_of.read in
     let trail = trail_of (record { place = File found.name; labels = labels }) found.bytes here.after.reader.trail read.trail in
-    let own = subst (IsNotedBy can_fail holds n here.after.reader.faults here.after.reader.closed) trail.1 (was.are_own place n here.after noted_at here.is) in
+    let own = subst (IsNotedBy can_fail holds n here.after.reader.faults) trail.1 (was.are_own place n here.after noted_at here.is) in
     ∥∥₁_elim own squash₁ (λ o. ∥∥₁_elim here.found_of.finding squash₁ (λ f.
     merely (of_text can_fail holds known labels terms found n text here.after.reader is never few read f trail.0 trail.2 trail.3 o)))

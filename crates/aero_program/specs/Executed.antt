@@ -38,7 +38,7 @@ use Rattle.aero_program.specs.Listing.{IsLeftByList}
 use Rattle.aero_program.specs.Notes.{AreNotable, AreNoted, AreOwn, AreShown, Noted, Remark, label_lines, labels_told, note_at, note_text, note_texts, notes_on}
 use Rattle.aero_program.specs.Reasons.{reason_words}
 use Rattle.aero_program.specs.Sightings.{AreNames, AreUnlisted, IsLeftUnlisted, source_sightings}
-use Rattle.aero_program.specs.Status.{end_of_help, end_of_run}
+use Rattle.aero_program.specs.Status.{end_checked, end_of_help, end_of_run}
 use Rattle.aero_program.specs.Streams.{IsTold, Shown, WasCut, WasFlushed}
 
 -- a failure is told on standard error, and has its status
@@ -156,7 +156,7 @@ pub record WasJudged (known : List ℕ → Option (List ℕ)) (can_fail : List �
   pub same : between.unflushed ≡ shown.unflushed
   pub fault : Option ErrorKind
   pub flushed : WasFlushed between shown_after fault
-  pub ends : Ends (note_texts config.terminals.errors (notes_on remarks) ++ label_lines config.terminals.errors (unused_of listed cause endings noted)) (end_of_run config.fail_open cause counts fault) told told_after status
+  pub ends : Ends (note_texts config.terminals.errors (notes_on remarks) ++ label_lines config.terminals.errors (unused_of listed cause endings noted)) (end_checked config.fail_unchecked notables (end_of_run config.fail_open cause counts fault)) told told_after status
 
 -- how it is told that there are no sources, since the list with their names, at this path, can't be had
 abbrev pub TellsUnlisted : (on_terminal : Bool) → (path : List ℕ) → Unlisted → Seen → Seen → ℕ → Type 0

@@ -87,7 +87,7 @@ pub record IsLed {S O F : Type 0} (stdin : S → Option (List ℕ)) (known : O �
   pub start : start_of now ≡ take 3 came
   pub reason : faults ≡ 0 → reason_of now ≡ reason_at (place_of (standing_of stdin known file first))
   pub failed : 0 < faults → is_some (reason_of now) ≡ true
-  pub may : closed_in (standing_of stdin known file now) ≡ false → 0 < faults → MayFailAt can_fail (place_of (standing_of stdin known file first))
+  pub may : 0 < faults → MayFailAt can_fail (place_of (standing_of stdin known file first))
   pub rightly : HasRightlyFailed can_fail (place_of (standing_of stdin known file first)) (standing_of stdin known file now)
   pub stream : StaysStream (standing_of stdin known file first) (standing_of stdin known file now) faults ends
   pub labels : watched_in now.watch ≡ watched_in first.watch

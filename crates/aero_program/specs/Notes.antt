@@ -88,24 +88,24 @@ AreNoted are_words endings noted =
     (at : ℕ) (n : Noted) → slice_get noted at ≡ Some n
     → (n.too_large ≡ was_too_large (slice_get endings at)) × (n.is_word ≡ are_words)
 
--- What was noted of a source is of the bytes that its reader gave, and of its reads, of which so many failed, and its stamp is one of a file that was opened at its path: its first bytes, a reason exactly where a read failed or the name is no path, and the labels that were looked for with which no line of these bytes begins a block. A read of one that wasn't closed failed only where it may. `can_fail` says of which paths an open may fail, or a read of the file that it gave, and `holds` which bytes a file may have that was opened at a path and had a stamp.
-pub record IsNotedFrom (can_fail : List ℕ → Type 0) (holds : List ℕ → Stamp → Option (List ℕ) → Type 0) (n : Noted) (faults : ℕ) (closed : Bool) (t : Trail) : Type 0 where
+-- What was noted of a source is of the bytes that its reader gave, and of its reads, of which so many failed, and its stamp is one of a file that was opened at its path: its first bytes, a reason exactly where a read failed or the name is no path, and the labels that were looked for with which no line of these bytes begins a block. A read failed only where it may. `can_fail` says of which paths an open may fail, or a read of the file that it gave, and `holds` which bytes a file may have that was opened at a path and had a stamp.
+pub record IsNotedFrom (can_fail : List ℕ → Type 0) (holds : List ℕ → Stamp → Option (List ℕ) → Type 0) (n : Noted) (faults : ℕ) (t : Trail) : Type 0 where
   pub start : n.start ≡ take 3 t.given
   pub reason : faults ≡ 0 → n.reason ≡ reason_at t.origin.place
   pub failed : 0 < faults → is_some n.reason ≡ true
-  pub may : closed ≡ false → 0 < faults → MayFailAt can_fail t.origin.place
+  pub may : 0 < faults → MayFailAt can_fail t.origin.place
   pub opened : IsOpenedAt holds t.origin.place n.opened
   pub missing : n.missing ≡ unbegun t.origin.labels t.given
 
 -- the same, by what a reader says of itself
-abbrev pub IsNotedBy : (can_fail : List ℕ → Type 0) → (holds : List ℕ → Stamp → Option (List ℕ) → Type 0) → Noted → (faults : ℕ) → (closed : Bool) → Option Trail → Type 0
-IsNotedBy can_fail holds n faults closed None = ⊥
-IsNotedBy can_fail holds n faults closed (Some t) = ∥ IsNotedFrom can_fail holds n faults closed t ∥₁
+abbrev pub IsNotedBy : (can_fail : List ℕ → Type 0) → (holds : List ℕ → Stamp → Option (List ℕ) → Type 0) → Noted → (faults : ℕ) → Option Trail → Type 0
+IsNotedBy can_fail holds n faults None = ⊥
+IsNotedBy can_fail holds n faults (Some t) = ∥ IsNotedFrom can_fail holds n faults t ∥₁
 
 -- what was noted of each source was noted by its own reader
 abbrev pub AreOwn : (can_fail : List ℕ → Type 0) → (holds : List ℕ → Stamp → Option (List ℕ) → Type 0) → List Sighted → List Noted → Type 0
 AreOwn can_fail holds sources noted =
-    (at : ℕ) (n : Noted) (s : Sighted) → slice_get noted at ≡ Some n → slice_get sources at ≡ Some s → IsNotedBy can_fail holds n s.reader.faults s.reader.closed s.reader.trail
+    (at : ℕ) (n : Noted) (s : Sighted) → slice_get noted at ≡ Some n → slice_get sources at ≡ Some s → IsNotedBy can_fail holds n s.reader.faults s.reader.trail
 
 -- the sources were noted with what a run noted of them beside their lines
 abbrev pub AreNotable : List (Option Notable) → List Noted → Type 0

@@ -45,6 +45,8 @@ pub struct Config {
     pub end: bool,
     /// Whether open blocks make the exit status 1, as a violation does.
     pub fail_open: bool,
+    /// Whether the exit status is 1 if no trace has a block that was checked.
+    pub fail_unchecked: bool,
     pub form: Form,
     /// Which of the standard streams are terminals. The command line doesn't say it: it knows of none.
     pub terminals: Terminals,

@@ -35,7 +35,7 @@ use crate::reason::Reason;
 use crate::retrying::Retrying;
 use crate::sizes::{are_worth_threads, look_at_all};
 use crate::sources::{Gathered, Ungathered, sources_of, untouched};
-use crate::status::end_after;
+use crate::status::{end_after, end_checked};
 use crate::traced::Traced;
 use aero_batch::{Cause, run_in_turn, sum_up};
 use aero_intake::{Followed, Plan, SourceOf};
@@ -268,6 +268,7 @@ where
     let Chosen { config, set } = chosen;
     let long = config.long;
     let fail_open = config.fail_open;
+    let fail_unchecked = config.fail_unchecked;
     let is_ended = config.end;
     let on_terminal = config.terminals.errors;
     let Ok((plan, asked)) = config.into_plan(alloc, set) else {
@@ -303,6 +304,7 @@ where
     let cause = sum_up_with(alloc, &plan, &report, &beside, &mut output.writer);
     let flushed = output.flush();
     let end = end_after(cause, &report.told.counts, &flushed, fail_open);
+    let end = end_checked(end, fail_unchecked, &report.told.notables);
     let told = told_after(&beside.unused, cause);
     let lines = all_lines(alloc, &beside.notes, told, on_terminal);
     (finish(end, lines, errors), left_beside(rest, sources))

@@ -54,7 +54,7 @@ enum Stage<S, O: Opener> {
 impl<S: Read + Drop, O: Opener + Drop> Input<S, O> {
     ghost use Rattle.std.specs.Prelude.{◌≡◌, [], Some, None, IfOk, bytes_eq, option_map, take};
     ghost use Rattle.std.specs.List.{list_any};
-    ghost use Rattle.aero_program.specs.Inputs.{opened_of, shut, standing_of, start_of, reason_of, unopened, unread, IsStandardOf, Standard, Failed};
+    ghost use Rattle.aero_program.specs.Inputs.{closed_in, opened_of, shut, standing_of, start_of, reason_of, unopened, unread, IsStandardOf, Standard, Failed};
     ghost use Rattle.aero_program.specs.Retries.{seen_within};
     ghost use Rattle.aero_program.specs.Labels.{HasWatched, missing_of, watched_in};
     ghost use Rattle.aero_watch.specs.Watches.{unbegun};
@@ -166,6 +166,23 @@ impl<S: Read + Drop, O: Opener + Drop> Input<S, O> {
         ensures watch { self.new.watch ≡ self.old.watch }
     {
         self.stage = mem::replace(&mut self.stage, Stage::Ended(None)).closed();
+    }
+
+    /// Returns whether its file was closed by `close`, before a read found the end or failed.
+    pub fn is_closed(&self) -> bool
+        ensures { result ≡ closed_in
+            (standing_of S.remaining O.known O.File.remaining self.now) }
+    {
+        match &self.stage {
+            Stage::Closed(_, _) => true,
+            Stage::Standard(_)
+            | Stage::Unopened(_, _)
+            | Stage::Reading(_, _)
+            | Stage::Ended(_)
+            | Stage::Unnamed
+            | Stage::Refused(_, _, _)
+            | Stage::Failed(_, _, _) => false,
+        }
     }
 
     /// Whether the bytes that came begin with a byte order mark, EF BB BF.

@@ -93,7 +93,7 @@ fn faulty_in(notable: Option<Notable>) -> Option<FaultyLine>
 }
 
 // Whether there was no block to check in a source.
-fn is_unchecked(notable: Option<Notable>) -> bool
+pub(crate) fn is_unchecked(notable: Option<Notable>) -> bool
     ensures { result ≡ is_unchecked notable }
 {
     matches!(notable, Some(Notable::Unchecked))

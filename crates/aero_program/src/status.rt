@@ -2,11 +2,14 @@
 ghost use Rattle.std.specs.Prelude.{◌≡◌};
 ghost use Rattle.std.specs.IoError.{error_kind};
 ghost use Rattle.aero_program.specs.Faults.{fault_of};
-ghost use Rattle.aero_program.specs.Status.{status_of, end_of_run};
+ghost use Rattle.std.specs.List.{list_all};
+ghost use Rattle.aero_program.specs.Notes.{is_unchecked};
+ghost use Rattle.aero_program.specs.Status.{status_of, end_checked, end_of_run, none_checked};
 
 use crate::failure::Failure;
 use crate::lasting::flush_fault;
-use aero_batch::{Cause, Outcome};
+use crate::notes::is_unchecked;
+use aero_batch::{Cause, Notable, Outcome};
 use aero_model::Counts;
 use std::io;
 
@@ -67,4 +70,32 @@ pub(crate) fn end_after(
         (None, Some(kind)) => Err(Failure::of_write(kind)),
         (None, None) => Ok(status_by(None, counts, fail_open)),
     }
+}
+
+// Returns the same end of a run, but with status 1 instead of 0 if it is asked for (`fail_unchecked`) and no trace has a block
+// that was checked. `notables` has an entry for each trace.
+pub(crate) fn end_checked(
+    end: Result<u8, Failure>,
+    fail_unchecked: bool,
+    notables: &[Option<Notable>],
+) -> Result<u8, Failure>
+    ensures { result ≡ end_checked fail_unchecked notables.now end }
+{
+    match end {
+        Ok(status) => {
+            if fail_unchecked && (none_checked(notables) && status == 0) {
+                Ok(1)
+            } else {
+                Ok(status)
+            }
+        }
+        Err(failure) => Err(failure),
+    }
+}
+
+// Returns whether no trace has a block that was checked.
+fn none_checked(notables: &[Option<Notable>]) -> bool
+    ensures { result ≡ none_checked notables.now }
+{
+    notables.iter().all(|notable| is_unchecked(*notable))
 }

@@ -15,12 +15,12 @@ use aero_intake::Followed;
 use aero_model::ghost_count::GhostCount;
 use std::alloc::AllocError;
 use std::io;
-use std::io::Read;
+use std::io::{ErrorKind, Read};
 use std::snapshot::Snapshot;
 
 /// An input, and how it was at first, which bytes it gave, and how many of its reads failed and found the end, which contracts
 /// alone see. What it has noted is of these bytes, and of these reads: its ghost field says so of each. It hands each
-/// read on, and costs nothing when it runs.
+/// read on until it is closed. Afterwards each read fails, which counts as no failed read of the input.
 #[derive(Drop)]
 pub struct Traced<S: Read, O: Opener> {
     input: Input<S, O>,
@@ -88,6 +88,9 @@ impl<S: Read + Drop, O: Opener + Drop> Followed for Traced<S, O> {
     ghost sight = { λ t. sight_at S.remaining O.known O.File.remaining t.first.value t.input t.given.bytes t.faults.number t.ends.number };
 
     fn read(&mut self, buf: &mut [u8]) -> io::Result<usize> {
+        if self.input.is_closed() {
+            return Err(io::Error::from(ErrorKind::Other));
+        }
         let result = self.input.read(buf);
         self.given = GhostText::with(&self.given, came(&result, buf));
         count_failure(&result, &mut self.faults);

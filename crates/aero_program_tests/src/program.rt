@@ -132,6 +132,7 @@ fn config_for(alloc: Global, sources: Sources, order: bool) -> Config
         stop: false,
         end: false,
         fail_open: false,
+        fail_unchecked: false,
         form: Form::Text,
         terminals: Terminals {
             output: false,

@@ -80,6 +80,7 @@ rules =
     ∷ text_rule (codes "files0-from")
     ∷ text_rule (codes "label")
     ∷ flag_rule (codes "fail-open")
+    ∷ flag_rule (codes "fail-unchecked")
     ∷ files_rule (codes "files")
     ∷ []
 
@@ -145,4 +146,5 @@ pub record AsksFor (config : Config) (rows : List Row) : Type 0 where
   pub form : form_told (texts_told (all_of (codes "format") rows)) ≡ Some config.form
   pub progress : config.progress ≡ progress_told (is_told (one_of (codes "quiet") rows)) (is_told (one_of (codes "progress") rows))
   pub fail_open : config.fail_open ≡ is_told (one_of (codes "fail-open") rows)
+  pub fail_unchecked : config.fail_unchecked ≡ is_told (one_of (codes "fail-unchecked") rows)
   pub sources : AreAskedFor config.files (texts_told (all_of (codes "files") rows)) (first_of (codes "files0-from") rows) (first_of (codes "label") rows)

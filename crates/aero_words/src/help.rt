@@ -134,7 +134,8 @@ After the report, standard error has notes, in the order of the traces:
 
 The exit status is the highest that applies, so a 2 hides a 1:
   0  no trace has a violation or a fault; also after --help and --version
-  1  a trace has a violation, or open blocks with --fail-open
+  1  a trace has a violation, or open blocks with --fail-open; or no trace has
+     a block that was checked, with --fail-unchecked
   2  a trace is malformed, ill-formed, broken or too large
   3  the command line was refused, a word isn't UTF-8, or a list of names or a
      file of labels can't be used: standard error has the reason

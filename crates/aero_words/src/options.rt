@@ -34,7 +34,7 @@ pub struct OptionRow {
 }
 
 /// The options, in the order of the help. `rules` of specs/Line.antt has the same.
-pub const OPTIONS: [OptionRow; 18] = [
+pub const OPTIONS: [OptionRow; 19] = [
     OptionRow {
         name: "workers",
         takes: Takes::Number(MOST_WORKERS, "4"),
@@ -189,6 +189,14 @@ or --files0-from",
         help: "Return status 1 also if blocks are open",
         long_help: "Return status 1 instead of 0 if a trace has open blocks. The report is
 the same",
+    },
+    OptionRow {
+        name: "fail-unchecked",
+        takes: Takes::Flag,
+        help: "Return status 1 also if no block was checked",
+        long_help: "Return status 1 instead of 0 if no trace has a block that was checked:
+no block begins, or --except or --only leaves out each one. The report
+is the same",
     },
     OptionRow {
         name: "files",

@@ -175,6 +175,7 @@ fn settle(alloc: Global, matches: &ArgMatches<'_>) -> Result<Config, Refused>
         stop: flag_in(matches, "stop"),
         end,
         fail_open: flag_in(matches, "fail-open"),
+        fail_unchecked: flag_in(matches, "fail-unchecked"),
         form,
         terminals: Terminals {
             output: false,

@@ -1,6 +1,6 @@
 use Rattle.std.specs.Vec.{with_items}
 use Rattle.std.proofs.lemmas.List.{length-map, with_items_is}
-use Rattle.std.proofs.Common.{Bool, Bor, length, arith, ◌≡◌, ◌≤◌, ◌^◌, ◌∙◌, ◌+◌, ap, sym, subst, inl, inr, map, refl, if◌then◌else◌, [], ◌++◌, List, ℕ, Option, None}
+use Rattle.std.proofs.Common.{Bool, Bor, length, arith, ◌≡◌, ◌≤◌, ◌^◌, ◌∙◌, ◌+◌, ap, ap₂, sym, subst, inl, inr, map, refl, if◌then◌else◌, [], ◌++◌, List, ℕ, Option, None}
 use Rattle.aero_model.specs.CallCounts.{seen_by}
 use Rattle.aero_model.specs.Exempt.{Listed}
 use Rattle.aero_model.specs.declared.verdict.Ending.{Ending}
@@ -24,6 +24,7 @@ use Rattle.std.specs.Prelude.{IfSome, option_map, unwrap_or}
 use Rattle.aero_program.specs.Notes.{AreNotes, all_read, label_lines, labels_told, missing_in_each, note_texts, noted_of_all, notes_on}
 use Rattle.aero_program.proofs.Noting.{told_as}
 use Rattle.aero_program.specs.Faults.{fault_of}
+use Rattle.aero_program.specs.Status.{end_checked}
 use Rattle.aero_program.specs.Streams.{shown_by, written_by}
 use Rattle.aero_program.proofs.Faulting.{is_fault}
 use Rattle.aero_program.proofs.Judged.{judged}
@@ -95,7 +96,7 @@ returns g c =
     before
     (record { writer = after; unflushed = c.args.output.now.unflushed.number })
     (shown_by g.O.Write.contents c.flush-flushed.new.self)
-    report.told.endings.items report.told.notables.items report.told.counts cause (fault_of error_kind c.flush-flushed.result) c.end_after-end.result _ _ c.finish.result terms form
+    report.told.endings.items report.told.notables.items report.told.counts cause (fault_of error_kind c.flush-flushed.result) c.end_checked-end.result _ _ c.finish.result terms form
     c.requires
     (λ i. record (asking c.in-Ok.plan.terms.rules.limits (c.in-Ok.ensures.except i) (c.in-Ok.ensures.order i) (c.in-Ok.ensures.explain i)) { stop = c.in-Ok.ensures.stop i }) c.in-Ok.ensures.form c.in-Ok.ensures.limits
     named seen
@@ -114,8 +115,8 @@ returns g c =
       faults = c.flush-flushed.ensures.faults;
       unflushed = c.flush-flushed.ensures.unflushed ∙ ap (λ b. c.args.output.now.unflushed.number + (if b then 1 else 0)) (is_fault error_kind c.flush-flushed.result);
     })
-    c.end_after-end.ensures
-    (subst (λ ls. Ends (note_texts on notes ++ label_lines on ls) c.end_after-end.result (seen_by g.E.Write.contents c.args.errors.now) (seen_by g.E.Write.contents c.finish.new.errors) c.finish.result)
+    (c.end_checked-end.ensures ∙ ap₂ (λ ns e. end_checked config.fail_unchecked ns e) c.deref-4.ensures.value c.end_after-end.ensures)
+    (subst (λ ls. Ends (note_texts on notes ++ label_lines on ls) c.end_checked-end.result (seen_by g.E.Write.contents c.args.errors.now) (seen_by g.E.Write.contents c.finish.new.errors) c.finish.result)
     labels_are_told (c.finish.ensures (lines_of notes) lines)))
 
 pub run_all-report-requires-after_bounds : goal.run_all-report-requires-after_bounds

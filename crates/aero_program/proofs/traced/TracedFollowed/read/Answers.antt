@@ -1,4 +1,4 @@
-use Rattle.std.proofs.Common.{◌∙◌, ◌++◌, ap}
+use Rattle.std.proofs.Common.{◌∙◌, ◌++◌, ap, sym}
 use Rattle.std.specs.IoError.{raw_os_error}
 use Rattle.aero_program.proofs.Leading.{merely_led_on}
 use Rattle.aero_program.proofs.traced.TracedFollowed.read.Goals as goal
@@ -11,6 +11,7 @@ invariant_of-self g c =
       led = merely_led_on g.S.Read.remaining g.O.Opener.known g.O.File.Read.remaining g.O.Opener.can_open g.O.Opener.can_fail g.O.Opener.holds raw_os_error
           was.first.value was.input read.new.self read.result read.new.buf
           (record {
+            unclosed = sym c.is_closed.ensures ∙ c.if-is_closed.false;
             steps = read.ensures.steps;
             fails = read.ensures.failed;
             opens = read.ensures.opened;
