@@ -19,13 +19,13 @@ _aerodrome() {
             return 0
             ;;
         # (from _aerodrome, by tools/completions:
-        aerodrome-merge) options='--fail-open --help' ;;
+        aerodrome-merge) options='--fail-open --fail-unchecked --help' ;;
         aerodrome-refine) options='--except --except-from --only --only-from --most --passes --format --output --continue --check
-        --progress --quiet --long --fail-open --help' ;;
+        --progress --quiet --long --fail-open --fail-unchecked --help' ;;
         aerodrome-page) options='--output --folder --root --no-traces --context --pictures --rows --help' ;;
         aerodrome-sarif) options='--output --folder --root --no-traces --help' ;;
         *) options='--workers --piece --except --only --except-from --only-from --order --explain --long --stop --end --format --progress
-        --quiet --files0-from --label --fail-open --help --version' ;;
+        --quiet --files0-from --label --fail-open --fail-unchecked --help --version' ;;
         # )
     esac
     case $before in

@@ -8,7 +8,8 @@
  *   @FILE      what the file says, with one name a line, and # before lines that say nothing; -@FILE: all but these
  *
  * Without it all are but main.main, inits, those that goroutines start with and those that only call Done, Lock or Unlock
- * (goroutines.c), those of the standard library, and those in files named _test.go. */
+ * (goroutines.c), those of the standard library, and those in files named _test.go. What the compiler makes beside a function never
+ * is one. */
 #include "log.h"
 #include "../logger/words.h"
 
@@ -37,8 +38,18 @@ static bool is_usual(const char *label, const char *file) {
     return !aero_ends_with(file, "_test.go") && !strstr(file, "_testmain.go") && !aero_is_of_library(label);
 }
 
+/* Whether the compiler made the function: main.(*Bank).Pay-fm, which calls Pay where that is a value, main.each-range1, the body of a
+ * loop over a function (Go 1.23), or type..eq.main.Bank and type..hash.main.Bank (type:.eq. since Go 1.20), which compare and hash
+ * values. It is a part of a function that has the label of the source. */
+static bool is_made_by_compiler(const char *label) {
+    if (begins(label, "type..") || begins(label, "type:.")) return true;
+    const char *made = strrchr(label, '-');
+    if (!made) return false;
+    return !strcmp(made, "-fm") || (begins(made, "-range") && made[6] && !made[6 + strspn(made + 6, "0123456789")]);
+}
+
 bool aero_is_block(const char *label, const char *file) {
-    if (begins(label, "runtime.") || begins(label, "internal/race.")) return false;
+    if (begins(label, "runtime.") || begins(label, "internal/race.") || is_made_by_compiler(label)) return false;
     bool block = base == ALL || (base == USUAL && is_usual(label, file));
     for (size_t one = 0; one < name_count; one++)
         if (matches(names[one].text, names[one].length, label)) {
@@ -60,8 +71,10 @@ static void take_names(const char *list, bool all_leave_out) {
     }
 }
 
+static bool has_plugins;
 static bool find_names(const char *label) {
     size_t found = 0;
+    has_plugins |= !strcmp(label, "plugin.Open");
     for (size_t one = 0; one < name_count; one++) {
         if (!names[one].is_found) names[one].is_found = matches(names[one].text, names[one].length, label);
         found += names[one].is_found != 0;
@@ -85,13 +98,13 @@ static const struct name *unknown_name(void) {
     return NULL;
 }
 
-/* Go leaves functions that nothing calls out of a program. */
+/* Go leaves functions that nothing calls out of a program. Plugins may have others. */
 bool aero_knows_blocks(void) {
     char what[256], why[256];
     if (!name_count || !aero_has_symbols()) return true;
     aero_each_function(find_names);
     const struct name *unknown = unknown_name();
-    if (!unknown) return true;
+    if (!unknown || has_plugins) return true;
     snprintf(what, sizeof what, "AERODROME_BLOCKS=%.180s", aero_settings.blocks);
     snprintf(why, sizeof why, "no function is called %.*s: nothing is logged", unknown->length < 150 ? (int)unknown->length : 150,
              unknown->text);

@@ -169,6 +169,14 @@ static void look_up(struct context *it) {
     if (!it->file) it->file = "?";
 }
 
+/* The runtime calls no hook of an access to a plugin's global variables. */
+static void tell_of_plugins(const char *name) {
+    static bool is_told;
+    if (is_told || strcmp(name, "plugin.open")) return;
+    is_told = true;
+    aero_say("plugin.Open", "global variables of plugins, and locks in them, aren't logged");
+}
+
 static void set_place(struct code *it, const struct context *found) {
     char text[MOST_PLACE + 40];
     const char *slash = strrchr(found->file, '/');
@@ -192,6 +200,7 @@ static struct code *make(word at) {
     for (int level = 0; level < LEVELS && !it->label; level++) {
         word pc = found.pc;
         look_up(&found);
+        tell_of_plugins(found.name);
         const struct known *name = known_by(found.name);
         bool low = is_low(found.name), leaves = level && (it->is & IS_LOW) && !low;
         if (!level || leaves) set_place(it, &found);

@@ -8,7 +8,7 @@
 bool aero_has_blocks;
 static struct numbers threads;
 static uint64_t last_id;
-enum { MOST_THREADS = 65536 };       /* that the checker takes */
+enum { MOST_THREADS = 65535 };       /* that the checker takes, less the one of the mark of a log that was cut */
 
 struct goroutine *aero_goroutine(void) {
     struct goroutine *made = aero_new(sizeof *made);
@@ -20,7 +20,7 @@ struct goroutine *aero_goroutine(void) {
 static bool take_number(struct goroutine *t) {
     bool is_used_again;
     t->number = aero_take_number(&threads, &is_used_again);
-    if (t->number > MOST_THREADS) aero_stop("more than 65536 goroutines at once, or none of their ends at a quiet moment");
+    if (t->number > MOST_THREADS) aero_stop("threads", "more than 65535 goroutines at once, or none of their ends at a quiet moment");
     t->length = (uint32_t)snprintf(t->prefix, sizeof t->prefix, "T%u|", t->number);
     return is_used_again;
 }

@@ -1,6 +1,7 @@
-/* The functions of the race detector's library, by their names there. runtime/race_amd64.s calls them on the stack of g0, and leaves
- * in r12 the stack pointer that the goroutine had, in r14 its g, and in rbp the frame of the Go function that called. An entry in
- * assembly puts these down, and hands their address on as the fifth argument. No Go code runs meanwhile. */
+/* The functions of the race detector's library, by their names there; aerodrome-go gives them names of their own. runtime/race_amd64.s
+ * calls them on the stack of g0, and leaves in r12 the stack pointer that the goroutine had, in r14 its g, and in rbp the frame of the Go
+ * function that called. An entry in assembly puts these down, and hands their address on as the fifth argument. No Go code runs
+ * meanwhile. */
 #include "log.h"
 
 /* (the stack was a multiple of 16 before the call, and is one again) */

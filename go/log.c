@@ -54,11 +54,11 @@ void aero_say(const char *what, const char *why) {
     if (syscall(SYS_write, STDERR_FILENO, text, (size_t)length) < 0) return;
 }
 
-void aero_stop(const char *why) {
+void aero_stop(const char *cause, const char *why) {
     char text[256];
     if (!aero_is_on) return;
     aero_is_on = 0;
-    aero_end();
+    aero_end(cause);
     if (!aero_has_lines()) aero_remove();
     snprintf(text, sizeof text, "%.200s: the rest isn't logged", why);
     aero_say(aero_settings.target, text);
@@ -91,9 +91,9 @@ static void finish_line(char *line, char *to, const char *operation, const char 
     if (place) to = mempcpy(to, place->place, place->place_length);
     else *to++ = '|';
     *to++ = '\n';
-    const char *why;
-    if (aero_write(line, (size_t)(to - line), &why)) aero_now++;
-    else aero_stop(why);
+    const char *why, *cause = aero_write(line, (size_t)(to - line), &why);
+    if (UNLIKELY(cause)) aero_stop(cause, why);
+    else aero_now++;
 }
 
 static char line[4096];      /* more than one ever has */

@@ -140,7 +140,8 @@ extern int aero_open_blocks;
 /* No block was open at some moment since the log had so many lines. */
 static inline bool aero_is_past(uint64_t when) { return !aero_open_blocks || when < aero_last_calm; }
 void aero_say(const char *what, const char *why);
-void aero_stop(const char *why);               /* says why; the log ends with its last whole line */
+/* Says why; the log ends with its last whole line, and a mark behind that, which has the cause: limit, write or threads. */
+void aero_stop(const char *cause, const char *why);
 void aero_line(struct goroutine *by, const char *operation, const char *target, const struct code *place);
 void aero_numbered_line(uint32_t thread, const char *operation, const char *target);    /* for a goroutine that may have ended */
 bool aero_has_lines(void);
@@ -154,12 +155,13 @@ void aero_give_back(struct numbers *to, uint32_t number);
 
 /* target.c */
 bool aero_open(const char *target);            /* whether the log could be opened, else it says why not */
-/* Writes a line, so that the log has all of it or nothing of it, and says whether it has. `why` says why not. */
-bool aero_write(const char *line, size_t length, const char **why);
+/* Writes a line, so that the log has all of it or nothing of it. Returns NULL, or the cause, of which `why` says more. */
+const char *aero_write(const char *line, size_t length, const char **why);
 uint64_t aero_written(void);                   /* bytes */
 bool aero_is_file(void);
 bool aero_remove(void);                        /* removes the file, which has no line, and says whether it did */
-const char *aero_end(void);                    /* no line comes any more; why something has failed, or NULL */
+/* No line comes any more. A cause: the log isn't whole. Returns why something has failed, or NULL. */
+const char *aero_end(const char *cause);
 const char *aero_close(void);                  /* waits for the command; why it has failed, or NULL */
 
 /* settings.c */

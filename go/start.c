@@ -1,9 +1,28 @@
 /* The start, which the runtime calls before main and before any other hook, and the end: of main and of os.Exit(0) by the race
- * detector's own hook, else by the runtime's exit, which aerodrome-go has call it too. */
+ * detector's own hook, else by the runtime's exit and dieFromSignal, which aerodrome-go has call it too, or by exit of C, where a
+ * program of C has a library of Go (c-archive, c-shared). */
 #include "log.h"
 
 #include <stdio.h>
 #include <stdlib.h>
+#include <unistd.h>
+
+/* atexit and pthread_atfork, which aren't in the shared C library themselves */
+int __cxa_atexit(void (*function)(void *), void *argument, void *library);
+int __register_atfork(void (*before)(void), void (*parent)(void), void (*child)(void), void *library);
+
+static bool is_open;
+static pid_t owner;          /* a child that C code forks ends no log */
+
+static void finish(bool waits);
+static void finish_by_exit(void *nothing) {
+    (void)nothing;
+    if (is_open && getpid() == owner && aero_lock_soon()) finish(true);
+}
+static void forget(void) {
+    aero_is_on = 0;
+    is_open = false;
+}
 
 static void start(void (*callback)(word, void *), const struct here *here) {
     const char *said = secure_getenv("AERODROME_LOG");
@@ -16,6 +35,10 @@ static void start(void (*callback)(word, void *), const struct here *here) {
     }
     if (!aero_open(said)) return;
     aero_code_start(callback, here->g);
+    __cxa_atexit(finish_by_exit, NULL, NULL);
+    __register_atfork(NULL, NULL, forget, NULL);
+    owner = getpid();
+    is_open = true;
     aero_is_on = 1;
 }
 
@@ -36,22 +59,28 @@ static void tell_of_little(void) {
     } else if (!aero_has_blocks && aero_wants_blocks()) aero_say("no block is logged", "no function that is a block did anything");
 }
 
-static void finish(void) {
-    if (!aero_is_on) return;
+/* The command is waited for where the log has ended early, too; why it has is told already. */
+static void finish(bool waits) {
+    bool is_whole = aero_is_on;
+    if (!is_open) return;
     aero_is_on = 0;
-    const char *why = aero_end();
-    tell_of_little();
-    if (!why) why = aero_close();
+    is_open = false;
+    const char *why = is_whole ? aero_end(NULL) : NULL;
+    if (is_whole) tell_of_little();
+    const char *why_closed = waits ? aero_close() : NULL;
+    if (!why && is_whole) why = why_closed;
     char text[256];
     snprintf(text, sizeof text, "%.200s: the rest isn't logged", why ? why : "");
     if (why) aero_say(aero_settings.target, text);
 }
 
-/* A signal may have come into a hook, and end the program by exit: then its thread has the lock. The file has all lines already. */
-EXPORT void __tsan_fini(word status, word is_exit) {
+/* How the program ends: main has returned, or the runtime's exit is called, or a signal ends it, which is to be soon. A signal may have
+ * come into a hook: then its thread has the lock, and the log isn't ended. */
+EXPORT void __tsan_fini(word status, word how) {
+    enum { RETURN, EXIT, SIGNAL };
     (void)status;
-    if (!is_exit) aero_lock();
+    if (how == RETURN) aero_lock();
     else if (!aero_lock_soon()) return;
-    finish();
-    if (!is_exit) exit(0);
+    finish(how != SIGNAL);
+    if (how == RETURN) exit(0);
 }

@@ -1,10 +1,12 @@
-/* The names of the program's global variables and functions, from the table of symbols in its file. aerodrome-go has go keep the
- * table. Names of functions have what the log has in them: main.Map[...] for each main.Map[int]. */
+/* The names of the program's global variables and functions, from the table of symbols in its file, which may also be a library that a
+ * program of C loads (c-shared). aerodrome-go has go keep the table. Names of functions have what the log has in them: main.Map[...]
+ * for each main.Map[int]. */
 #include "log.h"
 #include "../logger/words.h"
 
 #include <elf.h>
 #include <fcntl.h>
+#include <stdio.h>
 #include <stdlib.h>
 #include <sys/mman.h>
 #include <sys/stat.h>
@@ -22,9 +24,24 @@ static const char *strings;
 
 bool aero_has_symbols(void) { return all != NULL; }
 
+/* Opens the file that was mapped with this code: the program, whose path may lead to another one by now, or the library. */
+static int open_own_file(void) {
+    enum { LINE = 4096 + 128 };
+    char line[LINE], path[LINE] = "";
+    struct stat program;
+    unsigned long from, to, node = 0;
+    FILE *maps = fopen("/proc/self/maps", "re");
+    bool is_found = false;
+    while (maps && !is_found && fgets(line, LINE, maps))
+        is_found = sscanf(line, "%lx-%lx %*s %*s %*s %lu %[^\n]", &from, &to, &node, path) == 4 && (word)open_own_file - from < to - from;
+    if (maps) fclose(maps);
+    bool is_program = !is_found || stat("/proc/self/exe", &program) || program.st_ino == node;
+    return open(is_program ? "/proc/self/exe" : path, O_RDONLY | O_CLOEXEC);
+}
+
 static const char *image(void) {
     struct stat is;
-    int file = open("/proc/self/exe", O_RDONLY | O_CLOEXEC);
+    int file = open_own_file();
     if (file < 0) return NULL;
     void *bytes = fstat(file, &is) ? MAP_FAILED : mmap(NULL, (size_t)is.st_size, PROT_READ, MAP_PRIVATE, file, 0);
     close(file);
@@ -48,7 +65,7 @@ static bool is_counter(const char *name) {
 }
 
 void aero_symbols_start(void) {
-    extern EXPORT void __tsan_fini(word status, word is_exit);
+    extern EXPORT void __tsan_fini(word status, word how);    /* aerodrome-go has renamed it */
     const char *bytes = image();
     if (!bytes) return;
     const Elf64_Ehdr *head = (const void *)bytes;
@@ -66,7 +83,7 @@ void aero_symbols_start(void) {
     word bias = 0;
     for (size_t one = 0; one < all_count; one++) {
         const char *name = strings + all[one].st_name;
-        if (!strcmp(name, "__tsan_fini")) bias = (word)__tsan_fini - all[one].st_value;
+        if (!strcmp(name, "aerodrome_go_fini")) bias = (word)__tsan_fini - all[one].st_value;
         if (!is_variable(&all[one], name)) continue;
         variables[variable_count++] = (struct symbol){all[one].st_value, all[one].st_size, name};
         counter_count += is_counter(name);

@@ -1,6 +1,9 @@
 /* Where the log goes. A file is mapped, so that what is written is in it whatever ends the process. The bytes behind the last line
- * are line ends, which the checker skips. Lines for a command, a named pipe or a device go through memory that another process
- * shares: it writes them on, and goes on with that when the program has ended. */
+ * are line ends, which the checker skips, and then comes the mark of a log that isn't whole. Lines for a command, a named pipe or a
+ * device go through memory that another process shares: it writes them on, and goes on with that when the program has ended.
+ *
+ * The mark is a line that begins a block which never ends. While the program runs it says cut:killed; the regular end takes it off. A log
+ * that ends early has it right behind its last line, with the reason. So there is always room for it. */
 #include "log.h"
 #include "../logger/words.h"
 
@@ -20,10 +23,15 @@
 #include <time.h>
 #include <unistd.h>
 
-enum { WINDOW = 1 << 20, PAGE = 4096, BLINK = 20 };     /* BLINK: milliseconds */
+enum { WINDOW = 1 << 20, PAGE = 4096, BLINK = 20, MARK = 32 };     /* BLINK: milliseconds. MARK: room for the longest mark */
 static char path[8192];
 static uint64_t limit, written;      /* written: bytes of whole lines */
 static char *end_of_last;            /* where the line end of the last line lies in the window */
+
+/* Puts the mark's text there, and returns its length. */
+static size_t put_mark(char *to, const char *cause) {
+    return (size_t)(aero_put(aero_put(aero_put(to, "aerodrome|begin(cut:"), cause), ")|0\n") - to);
+}
 
 /* ---- files that are kept open, whose numbers the program may close and use for files of its own */
 
@@ -47,54 +55,68 @@ static int out_of_the_way(int number) {
     return moved;
 }
 
-/* ---- a file */
+/* ---- a file; while the program runs it has lines, line ends, and the mark, one behind the other */
 
 static char *window, *line_ends;
 static off_t window_at;
-static uint64_t window_end;        /* of the bytes that lines may have */
+static uint64_t mark_at, file_end;     /* where the mark begins, and ends. Lines end before it */
 
-/* Until lines are written the file has a text that is no trace, so that nobody takes the log of a program that was killed for one
- * without a violation. Where files may have no byte, writing would end the program. */
-static void mark(void) {
+/* Until lines are written the file has a text that is no trace in the place of the mark: the log of a program that was killed before
+ * that is refused. Where files may have no byte, writing would end the program. */
+static void begin_file(void) {
     static const char text[] = "aerodrome-log: the program has ended before it wrote its first lines";
     struct rlimit most;
     if (!getrlimit(RLIMIT_FSIZE, &most) && most.rlim_cur < sizeof text) return;
-    if (pwrite(file.number, text, sizeof text - 1, 0) < 0) return;
+    ssize_t had = pwrite(file.number, text, sizeof text - 1, 0);
+    if (had > 0) file_end = (uint64_t)had;
 }
 
-/* A write that fails because files may not be longer sends a signal, which would end a Go program. So it waits meanwhile, and is
- * taken back. Line ends are written, not only the file's length: a full disk is an error then, and no SIGBUS in the mapped file.
- * Returns how many could be written; *why is 0 if all could be. */
-static size_t write_line_ends(size_t bytes, int *why) {
+/* Makes the file longer, up to there if it can be, and sets *why to 0 if it can. A write that fails because files may not be longer
+ * sends a signal, which would end a Go program. So it waits meanwhile, and is taken back. Line ends are written, not only the file's
+ * length: a full disk is an error then, and no SIGBUS in the mapped file. Returns where the file ends. */
+static uint64_t lengthen(uint64_t end, int *why) {
     const struct timespec none = {0, 0};
-    size_t had = 0;
+    uint64_t at = file_end;
     sigset_t too_long, before;
     sigemptyset(&too_long);
     sigaddset(&too_long, SIGXFSZ);
     pthread_sigmask(SIG_BLOCK, &too_long, &before);
     *why = 0;
-    while (had < bytes && !*why) {
-        ssize_t some = pwrite(file.number, line_ends, bytes - had, (off_t)(written + had));
-        if (some > 0) had += (size_t)some;
+    while (at < end && !*why) {
+        ssize_t some = pwrite(file.number, line_ends, end - at < WINDOW ? end - at : WINDOW, (off_t)at);
+        if (some > 0) at += (uint64_t)some;
         else if (some == 0 || errno != EINTR) *why = some ? errno : ENOSPC;
     }
     if (*why == EFBIG) sigtimedwait(&too_long, NULL, &none);
     pthread_sigmask(SIG_SETMASK, &before, NULL);
-    return had;
+    return at;
 }
 
-/* Maps the window in which the next line begins, with the end of the last line. Where less can be written, it ends earlier. */
+/* Where the file is to end for a window that begins there: not behind the limit, but with room for a mark behind the one that it has. */
+static uint64_t next_end(off_t from) {
+    uint64_t end = (uint64_t)from + WINDOW;
+    if (limit && end > limit) end = limit;
+    return end < file_end + MARK ? file_end + MARK : end;
+}
+
+/* Maps the window in which the next line begins, with the end of the last line. The mark that the file has goes only when the one at
+ * the new end is there. Where less can be written, the window ends earlier. */
 static const char *next_window(size_t length) {
     int why;
     off_t from = written ? ((off_t)written - 1) & ~(off_t)(PAGE - 1) : 0;
     if (!is_kept()) return "the program has closed it";
-    size_t had = write_line_ends((size_t)(from + WINDOW - (off_t)written), &why);
-    if (had < length) return strerror(why);
+    uint64_t old_mark = mark_at, old_end = file_end, end = lengthen(next_end(from), &why);
+    if (end < old_end + MARK || end < written + length + MARK) return strerror(why ? why : ENOSPC);
+    char *mapped = mmap(NULL, WINDOW, PROT_READ | PROT_WRITE, MAP_SHARED, file.number, from);
+    if (mapped == MAP_FAILED) return strerror(errno);
     if (window) munmap(window, WINDOW);
-    window = mmap(NULL, WINDOW, PROT_READ | PROT_WRITE, MAP_SHARED, file.number, from);
-    if (window == MAP_FAILED) return strerror(errno);
+    window = mapped;
     window_at = from;
-    window_end = written + had;
+    mark_at = end - MARK;
+    file_end = end;
+    put_mark(window + ((off_t)mark_at - from), "killed");
+    atomic_signal_fence(memory_order_seq_cst);
+    memset(window + ((off_t)old_mark - from), '\n', old_end - old_mark);
     end_of_last = written ? window + ((off_t)written - 1 - from) : NULL;
     return NULL;
 }
@@ -102,8 +124,7 @@ static const char *next_window(size_t length) {
 /* The end of the line before becomes a blank while the line is copied, so that what is there of it belongs to the place of the line
  * before, which the checker doesn't look at. So each line is there as a whole or not at all, wherever the process is killed. */
 static const char *write_into_file(const char *line, size_t length) {
-    const char *why = NULL;
-    if (written + length > window_end) why = next_window(length);
+    const char *why = written + length > mark_at || !window ? next_window(length) : NULL;
     if (why) return why;
     char *to = window + ((off_t)written - window_at);
     volatile char *last = end_of_last;
@@ -113,6 +134,17 @@ static const char *write_into_file(const char *line, size_t length) {
     atomic_signal_fence(memory_order_seq_cst);
     if (last) *last = '\n';
     end_of_last = to + length - 1;
+    return NULL;
+}
+
+/* The file ends behind its last line, or behind the mark. One without a line keeps its text. One that the program has closed keeps
+ * its length, but no other mark. */
+static const char *end_file(const char *cause) {
+    if (!window) return NULL;
+    if (cause) written += put_mark(window + ((off_t)written - window_at), cause);
+    if (is_kept()) return ftruncate(file.number, (off_t)written) ? strerror(errno) : NULL;
+    uint64_t from = written > mark_at ? written : mark_at;
+    memset(window + ((off_t)from - window_at), '\n', file_end - from);
     return NULL;
 }
 
@@ -207,8 +239,9 @@ static int write_on(int to, int program) {
     }
 }
 
-/* What ends the program by the terminal lets the writer end its work. */
+/* What ends the program by the terminal lets the writer end its work. A program that is killed leaves the mark to it. */
 static void be_the_writer(int to, int program, const char *command) {
+    char mark[MARK];
     static const int through[] = {SIGINT, SIGTERM, SIGHUP, SIGQUIT, SIGPIPE, SIGXFSZ};
     pid_t process = 0;
     if (command) to = start_command(command, &process);
@@ -216,6 +249,7 @@ static void be_the_writer(int to, int program, const char *command) {
     for (size_t one = 0; one < sizeof through / sizeof *through; one++) signal(through[one], SIG_IGN);
     prctl(PR_SET_NAME, "aerodrome-log", 0, 0, 0);
     atomic_store(&shared->error, why ? why : write_on(to, program));
+    if (!atomic_load(&shared->error) && !atomic_load(&shared->is_all)) write_all(to, mark, put_mark(mark, "killed"));
     atomic_store(&shared->has_ended, 1);
     syscall(SYS_futex, &shared->taken_turn, FUTEX_WAKE, 1, NULL, NULL, 0);
     close(to);
@@ -282,17 +316,26 @@ static const char *write_into_pipe(const char *line, size_t length) {
     return NULL;
 }
 
+/* The lines end, with the mark if there is a cause and the reader is there still. */
+static void end_pipe(const char *cause) {
+    char mark[MARK];
+    size_t length = cause ? put_mark(mark, cause) : 0;
+    if (length && !write_into_pipe(mark, length)) written += length;
+    atomic_store(&shared->is_all, 1);
+}
+
 /* ---- the target */
 
 bool aero_is_file(void) { return !shared; }
 uint64_t aero_written(void) { return written; }
 
-bool aero_write(const char *line, size_t length, const char **why) {
+const char *aero_write(const char *line, size_t length, const char **why) {
     *why = "AERODROME_LIMIT is reached";
-    if (UNLIKELY(limit && written + length > limit)) return false;
+    if (UNLIKELY(limit && written + length + MARK > limit)) return "limit";
     *why = shared ? write_into_pipe(line, length) : write_into_file(line, length);
-    if (LIKELY(!*why)) written += length;
-    return !*why;
+    if (UNLIKELY(*why)) return "write";
+    written += length;
+    return NULL;
 }
 
 /* With the process's number in the place of each %p. Says whether there is room for it. */
@@ -318,7 +361,7 @@ static int open_target(const char *said) {
     if (!S_ISREG(is.st_mode)) return start_writer(number, NULL);
     file = (struct kept){out_of_the_way(number), is.st_dev, is.st_ino};
     line_ends = memset(aero_new(WINDOW), '\n', WINDOW);
-    mark();
+    begin_file();
     return 0;
 }
 
@@ -339,9 +382,9 @@ bool aero_remove(void) {
     return is_ours && !unlink(path);
 }
 
-const char *aero_end(void) {
-    if (shared) atomic_store(&shared->is_all, 1);
-    else if (is_kept() && ftruncate(file.number, (off_t)written)) return strerror(errno);
+const char *aero_end(const char *cause) {
+    if (!shared) return end_file(cause);
+    end_pipe(cause);
     return NULL;
 }
 

@@ -72,8 +72,7 @@ NOTHING(__tsan_set_fiber_name, void *fiber UNUSED, const char *name UNUSED)
 EXPORT void __tsan_switch_to_fiber(void *fiber UNUSED, unsigned flags UNUSED) {
     if (!aero_enter()) return;
     aero_lock();
-    aero_flush();
-    aero_stop("the program switches to another stack (__tsan_switch_to_fiber)");
+    aero_stop(CUT_FIBER, "the program switches to another stack (__tsan_switch_to_fiber)");
     aero_unlock();
     aero_leave();
 }

@@ -14,7 +14,8 @@ enum { SEQUENTIAL = __ATOMIC_SEQ_CST };
         aero_lock(); \
         bool locks = aero_me.locking.what != NO_LOCK_CALL, gives = UNLIKELY(locks) && aero_gives_back((uintptr_t)(at), HERE); \
         work; \
-        if (LIKELY(!locks) || !(gives || aero_takes((uintptr_t)(at), *(operation) == 'w', HERE))) \
+        if (aero_is_of_condition()) {} \
+        else if (LIKELY(!locks) || !(gives || aero_takes((uintptr_t)(at), *(operation) == 'w', HERE))) \
             aero_span(operation, PLAIN, (uintptr_t)(at), sizeof(type), HERE); \
         aero_unlock(); \
         aero_leave(); \

@@ -7,11 +7,13 @@
 /* Of a frame's block, in the log: it was split where it waits, and is to begin again. */
 enum { CLOSED, OPEN, SPLIT };
 
+bool aero_has_begun;
+
 static bool has_room(struct thread *me) {
     bool has_room = aero_has_room((void **)&me->frames, sizeof *me->frames, me->depth, &me->room);
     if (LIKELY(has_room && (me->has_end || aero_end_with_thread()))) return true;
     aero_lock();
-    aero_stop("out of memory");
+    aero_stop(CUT_MEMORY, "out of memory");
     aero_unlock();
     return false;
 }
@@ -48,6 +50,7 @@ static void push(const struct code *function, uintptr_t frame, uintptr_t call) {
     struct frame *top = &me->frames[me->depth];
     int kind = function ? atomic_load_explicit(&function->kind, memory_order_relaxed) : 0;
     bool is_block = kind & IS_BLOCK && (aero_starts_are_blocks() || !(is_start(me) || is_test(me, function)));
+    if (UNLIKELY(kind & RELOCKS)) aero_split_blocks(true);
     *top = (struct frame){frame, function, call, me->outside, CLOSED};
     if (UNLIKELY(kind & IS_RUNTIME || me->outside)) note_outside(me, top, kind & IS_RUNTIME);
     me->depth++;
@@ -55,6 +58,7 @@ static void push(const struct code *function, uintptr_t frame, uintptr_t call) {
         aero_lock();
         aero_line("begin", "", 0, function->label, call);
         top->block = OPEN;
+        aero_has_begun = true;
         aero_unlock();
     }
     if (UNLIKELY(kind >= LOCK_FUNCTION)) aero_enter_lock_function((enum lock_call)(kind / LOCK_FUNCTION), call);
@@ -80,6 +84,19 @@ void aero_left(uintptr_t frame) {
     while (me->depth && me->frames[me->depth - 1].at < frame) pop(0);
 }
 
+/* Where the frame of the function begins that has called this one: as the wrapper has it, it has a frame pointer. */
+#ifdef __x86_64__
+#define CALLERS_FRAME (*(const uintptr_t *)__builtin_frame_address(0) + 2 * sizeof(uintptr_t))
+#else
+#define CALLERS_FRAME 0
+#endif
+/* The function is left, whose frame ends at `low`. Above lies that of its caller. */
+static void renew_frame(uintptr_t low, uintptr_t high) {
+    const struct thread *me = &aero_me;
+    uintptr_t most = me->depth ? me->frames[me->depth - 1].at : UINTPTR_MAX;
+    if (low <= high && high <= most) aero_renew_below(high);
+}
+
 bool aero_has_entered;
 
 /* What no hooked function has called, as main or what a thread starts with, has its own place. */
@@ -97,6 +114,7 @@ EXPORT void __tsan_func_exit(void) {
     if (!aero_enter()) return;
     if (UNLIKELY(aero_me.jumped)) aero_left(FRAME);
     if (aero_me.depth) pop(HERE);
+    if (aero_is_noted(aero_me.stack)) renew_frame(FRAME, CALLERS_FRAME);
     aero_leave();
 }
 
@@ -141,6 +159,15 @@ void aero_split_blocks(bool begins) {
     else end_here(&aero_me, SPLIT);
     aero_unlock();
 }
+bool aero_looks_for_condition(void) {
+    for (size_t place = aero_me.depth; place > 0; place--) {
+        const struct code *function = aero_me.frames[place - 1].function;
+        int kind = function ? atomic_load_explicit(&function->kind, memory_order_relaxed) : 0;
+        if (!(kind & IS_RUNTIME) || kind & OF_PROGRAM) return false;
+        if (kind & OF_CONDITION) return true;
+    }
+    return false;
+}
 void aero_split_at_thread(void) {
     if (aero_settings.splits_threads) end_here(&aero_me, CLOSED);
 }
@@ -172,6 +199,7 @@ static void leave_until(uintptr_t stack) {
         kept = place + 1;
     }
     while (me->depth > kept) pop(0);
+    if (aero_is_noted(me->stack)) aero_renew_below(stack);
 }
 
 static void jumps_to(const struct __jmp_buf_tag *to) {

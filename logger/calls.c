@@ -6,18 +6,34 @@
 #include <sched.h>
 #include <stdarg.h>
 #include <sys/prctl.h>
+#include <sys/stat.h>
 #include <sys/syscall.h>
 #include <unistd.h>
 
 /* Nothing is asked of the system where no log is open: it may not be allowed. */
 static bool has_log(void) { return aero_log.number >= 0 && getpid() == aero_owner && aero_enter(); }
 
-static void write_out(bool ends_thread) {
+/* Whether no other thread is left; false where the system doesn't say. */
+static bool is_last_thread(void) {
+    struct stat is;
+    return !stat("/proc/self/task", &is) && is.st_nlink == 3;    /* two more than there are threads */
+}
+
+/* With the last thread the process ends, and calls nobody. */
+static void before_thread_ends(void) {
     if (!has_log()) return;
     aero_lock();
-    if (ends_thread) aero_end_thread();
-    aero_clear();
+    aero_end_thread();
     aero_flush();
+    aero_unlock();
+    aero_leave();
+    if (is_last_thread()) aero_finish();
+}
+
+static void before_filter(void) {
+    if (!has_log()) return;
+    aero_lock();
+    aero_write_only();
     aero_unlock();
     aero_leave();
 }
@@ -39,8 +55,11 @@ static bool is_fork(long number, const long *with) {
 /* In seccomp's strict mode a thread may read, write and exit only, and the logger needs more. */
 static void before_strict_mode(void) {
     if (!has_log()) return;
-    aero_leave();
+    aero_lock();
     aero_say("seccomp", "the program asks for its strict mode: the rest isn't logged");
+    aero_cut(CUT_WRITE);
+    aero_unlock();
+    aero_leave();
     aero_finish();
 }
 
@@ -53,9 +72,9 @@ EXPORT long syscall(long number, ...) {
     va_end(list);
     if (number == SYS_exit_group || number == SYS_exit) note_end();
     if (number == SYS_exit_group) aero_finish();
-    if (number == SYS_exit) write_out(true);
+    if (number == SYS_exit) before_thread_ends();
     if (number == SYS_seccomp && with[0] == SECCOMP_SET_MODE_STRICT) before_strict_mode();
-    if (number == SYS_seccomp) write_out(false);
+    if (number == SYS_seccomp) before_filter();
     bool entered = (number == SYS_execve || number == SYS_execveat) && aero_log.number >= 0 && aero_before_exec();
     long result = real(number, with[0], with[1], with[2], with[3], with[4], with[5]);
     if (!result && is_fork(number, with)) aero_forked_apart();
@@ -71,7 +90,7 @@ EXPORT int prctl(int option, ...) {
     for (size_t place = 0; place < 4; place++) with[place] = va_arg(list, unsigned long);
     va_end(list);
     if (option == PR_SET_SECCOMP && with[0] == SECCOMP_MODE_STRICT) before_strict_mode();
-    if (option == PR_SET_SECCOMP) write_out(false);
+    if (option == PR_SET_SECCOMP) before_filter();
     return real(option, with[0], with[1], with[2], with[3]);
 }
 
@@ -82,8 +101,7 @@ EXPORT int prctl(int option, ...) {
 static void before_thread(void) {
     if (!has_log()) return;
     aero_lock();
-    aero_flush();
-    aero_stop("the program makes a thread by clone");
+    aero_stop(CUT_THREADS, "the program makes a thread by clone");
     aero_unlock();
     aero_leave();
 }

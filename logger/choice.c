@@ -2,7 +2,8 @@
  *
  *   f,g        these, with a comma or a newline between two. A name is that in the log (Bank::pay) or that of the symbol
  *              (_ZN4Bank3payEl); in one, * stands for any text: Bank::*,-Bank::audit. A library's own are libbank.so:f,
- *              also where it is loaded later. A function without a name is called as in the log: program+0x1234
+ *              also where it is loaded later, and plug*.so:f of each library that is called so. A function without a name is
+ *              called as in the log: program+0x1234
  *   -f,g       all that are blocks without the variable, but these
  *   all        each function; all,-f but for f
  *   none       none
@@ -32,7 +33,7 @@ bool aero_starts_are_blocks(void) { return base != USUAL; }
 /* ---- names that match */
 
 static bool is_in_file(const struct name *name, const char *file) {
-    return !name->file || (strlen(file) == name->file_length && !memcmp(file, name->file, name->file_length));
+    return !name->file || matches(name->file, name->file_length, file);
 }
 static bool is_called(const struct name *name, const char *label, const char *symbol, const char *file) {
     if (!is_in_file(name, file)) return false;
@@ -50,15 +51,29 @@ static bool is_of_std(const char *symbol) {
     symbol += strspn(symbol, "rVK");
     symbol += strspn(symbol, "RO");
     return (*symbol == 'S' && symbol[1] && strchr("tabsiod", symbol[1])) || begins(symbol, "9__gnu_cxx")
-        || begins(symbol, "10__cxxabiv1");
+        || begins(symbol, "10__cxxabiv1") || begins(symbol, "11__gnu_debug") || begins(symbol, "14__gnu_parallel");
 }
 static bool is_of_runtime(const char *label, const char *symbol) {
     static const char *const heads[] = {"_GLOBAL__", "__cxx_global_", "__static_initialization", "__tls_init", "__cxa_",
                                         "__gthread_", "__clang_call_terminate", "__rust", "TLS init function for ",
-                                        "TLS wrapper function for "};
+                                        "TLS wrapper function for ", "_ZGI", "_sub_I_", "_sub_D_", "__gcov", "__llvm_gcov",
+                                        "__llvm_profile"};
     for (size_t one = 0; one < sizeof heads / sizeof *heads; one++)
         if (begins(label, heads[one]) || begins(symbol, heads[one])) return true;
     return aero_is_rust(symbol) ? aero_is_of_rust_library(label) : is_of_std(symbol);
+}
+/* condition_variable_any is compiled with the program, as no other lock of std is. It has a mutex of its own, in memory that is counted, and
+ * _Unlock for the time in which the program's lock isn't had. A stop_token is the program's. */
+static int of_condition(const char *symbol) {
+    static const char head[] = "St3_V222condition_variable_any";
+    if (!begins(symbol, "_Z")) return 0;
+    symbol += 2 + strspn(symbol + 2, "Z");
+    symbol += *symbol == 'N';
+    symbol += strspn(symbol, "rVK");
+    if (begins(symbol, "St10stop_token") || begins(symbol, "St13stop_callback") || begins(symbol, "St11stop_source")) return OF_PROGRAM;
+    if (!begins(symbol, head)) return 0;
+    if (!begins(symbol + strlen(head), "7_Unlock")) return OF_CONDITION;
+    return strstr(symbol, "ED1Ev") || strstr(symbol, "ED2Ev") ? OF_PROGRAM | RELOCKS : OF_PROGRAM;
 }
 static bool is_main(const char *label, const char *symbol) {
     return !strcmp(symbol, "main") || (aero_is_rust(symbol) && aero_is_rust_main(label));
@@ -78,7 +93,7 @@ int aero_kind(const char *label, const char *symbol, const char *file) {
             block = !names[one].leaves_out;
             if (!block) break;
         }
-    return (block ? IS_BLOCK : 0) | (runtime ? IS_RUNTIME : 0) | (int)locks * LOCK_FUNCTION;
+    return (block ? IS_BLOCK : 0) | (runtime ? IS_RUNTIME : 0) | (symbol ? of_condition(symbol) : 0) | (int)locks * LOCK_FUNCTION;
 }
 
 /* ---- names of a list */
@@ -125,13 +140,16 @@ static void tell_unknown(const struct name *name, const char *so) {
     aero_say(what, why);
 }
 
+/* Whether it is of several libraries, of which one may have it and another not. */
+static bool is_of_several(const struct name *name) { return name->file && memchr(name->file, '*', name->file_length); }
+
 /* The first name that no function has, of those of the file's functions, or, by NULL, of all that may be there by now. What a
  * pattern would leave out needn't be there. */
 static const struct name *unknown_name(const char *file) {
     for (size_t one = 0; one < name_count; one++) {
         const struct name *name = &names[one];
         bool is_wanted = file ? name->file && is_in_file(name, file) : !name->file || aero_is_loaded(name->file, name->file_length);
-        if (!is_wanted || name->is_found || is_address(name)) continue;
+        if (!is_wanted || name->is_found || is_address(name) || is_of_several(name)) continue;
         if (!name->leaves_out || !memchr(name->text, '*', name->length)) return name;
     }
     return NULL;
@@ -146,26 +164,29 @@ bool aero_knows_blocks(void) {
 }
 
 void aero_look_for_blocks(const char *file) {
-    if (!unknown_name(file)) return;
+    if (!name_count) return;
     aero_each_function(file, find_names);
     const struct name *unknown = unknown_name(file);
     if (!unknown) return;
     tell_unknown(unknown, "the rest isn't logged");
     aero_lock();
-    aero_flush();
-    atomic_store(&aero_state, OFF);
+    aero_cut(CUT_BLOCKS);
     aero_unlock();
 }
 
-void aero_tell_never_loaded(void) {
+bool aero_wants_blocks(void) { return base == ALL || (base == ONLY_LISTED && name_count); }
+
+bool aero_tell_never_loaded(void) {
     char what[256];
     for (size_t one = 0; one < name_count; one++) {
         const struct name *name = &names[one];
         if (!name->file || name->leaves_out || name->is_found) continue;
         snprintf(what, sizeof what, "AERODROME_BLOCKS=%.180s", aero_settings.blocks);
-        aero_say(what, "a library of a name in it was never loaded");
-        return;
+        aero_say(what, is_of_several(name) ? "a name in it is of no library that was loaded, or of none of its functions"
+                                           : "a library of a name in it was never loaded");
+        return true;
     }
+    return false;
 }
 
 /* Whoever says which functions are blocks doesn't need the names of others. */

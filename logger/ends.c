@@ -12,11 +12,13 @@ pid_t aero_owner;
 
 /* A log without a line, or without blocks, would be taken for one without a violation. Of children of fork many do nothing but
  * call exec. */
-static void tell_of_little(void) {
-    if (!aero_has_lines() && !aero_remove()) aero_clear();
+static void tell_of_little(bool is_told) {
+    if (!aero_has_lines()) aero_remove();
     if (aero_is_child()) return;
     if (!aero_has_lines()) aero_say("nothing is logged", "no code that aerodrome-cc has compiled did anything");
     else if (!aero_has_entered) aero_say("no block is logged", "no function that aerodrome-cc has compiled was called");
+    else if (!is_told && !aero_has_begun && aero_wants_blocks())
+        aero_say("no block is logged", "none of the functions was called that AERODROME_BLOCKS names");
 }
 
 static void close_log(void) {
@@ -38,10 +40,10 @@ void aero_finish(void) {
     aero_flush();
     if (atomic_load(&aero_state) == ON) {
         aero_end_thread();
-        aero_tell_never_loaded();
-        tell_of_little();
+        bool is_told = aero_tell_never_loaded();
+        tell_of_little(is_told);
     }
-    aero_flush();
+    aero_unmark();
     atomic_store(&aero_state, OFF);
     close_log();
     aero_unlock();

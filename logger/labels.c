@@ -1,6 +1,8 @@
 /* Names as the log has them: those that people know of C++ and Rust functions and variables, within the format's 255 bytes. */
 #include "log.h"
+#include "words.h"
 
+#include <ctype.h>
 #include <stdlib.h>
 #include <string.h>
 
@@ -21,14 +23,24 @@ static void cut_parameters(char *text) {
     if (end > text) *end = 0;
 }
 
+/* Whether it is a word behind the parameters of a function, in which a lambda or a class is: `K::pay(int) const::{lambda()#1}`. */
+static bool is_qualifier(const char *word) {
+    static const char *const all[] = {"const", "volatile", "&", "noexcept"};
+    for (size_t one = 0; one < sizeof all / sizeof *all; one++)
+        if (begins(word, all[one])) return strchr(" :&", word[strlen(all[one])]) != NULL;
+    return false;
+}
+
 /* Where the name begins behind the type that a template returns: a blank outside brackets stands before it. An operator's name
  * may have blanks itself. */
 static char *behind_type(char *text) {
     int depth = 0;
+    bool is_behind = false;                  /* the parameters of a function, whose qualifiers may follow */
     char *from = text, *stop = strstr(text, "operator");
     for (char *byte = text; *byte && byte != stop; byte++) {
         depth += (*byte == '<' || *byte == '(' || *byte == '{') - (*byte == '>' || *byte == ')' || *byte == '}');
-        if (!depth && *byte == ' ') from = byte + 1;
+        if (!depth && *byte == ' ' && !(is_behind && is_qualifier(byte + 1))) from = byte + 1;
+        if (!depth) is_behind = *byte == ')' || (is_behind && *byte != ':');
     }
     return *from ? from : text;
 }
@@ -52,8 +64,8 @@ static void put_within(char *to, const char *text, size_t most) {
     *to = 0;
 }
 
-/* ---- symbols that are too long for the C++ runtime, which reads at most 1,024 bytes. Of these the path is read, with <...> in the
- * place of a template's arguments; what isn't understood leaves the symbol as it is. */
+/* ---- symbols that the C++ runtime doesn't read, as it isn't there, or reads at most 1,024 bytes, or knows no modules. Of these the path
+ * is read, with <...> in the place of a template's arguments; what isn't understood leaves the symbol as it is. */
 
 static const char *behind_end(const char *at, bool is_expression);
 
@@ -115,11 +127,21 @@ static const char *behind_end(const char *at, bool is_expression) {
     return at ? at + 1 : NULL;
 }
 
+/* Behind the names of the module, as in W4bank, and of its part, WP4part, that the name belongs to. */
+static const char *behind_module(const char *at) {
+    const char *from;
+    size_t length;
+    while (at && *at == 'W') at = behind_name(at + 1 + (at[1] == 'P'), &from, &length);
+    return at;
+}
+
 /* Puts a part of the path, and returns what is behind it in the symbol; NULL: it isn't understood. `last` is where the last name was
  * put, whose constructor may follow; behind that, and before the first name, its length is 0. */
 static const char *put_step(char **to, char **last, size_t *last_length, const char *at) {
     const char *from, *behind;
     size_t length;
+    at = behind_module(at);
+    if (!at) return NULL;
     at += *at == 'L';
     if (*at == 'I') {
         *to = aero_put_text(*to, "<...>");
@@ -160,20 +182,52 @@ static char *path_of(const char *symbol) {
 
 /* ---- labels */
 
+/* Of count.0 or count.lto_priv.0 the name alone; bump.count is that of a variable in a function, as clang calls it. */
+static size_t length_of_variable(const char *symbol) {
+    static const char *const suffixes[] = {".lto_priv", ".llvm", ".constprop"};
+    size_t length = strcspn(symbol, "@"), shorter;
+    do {
+        shorter = length;
+        while (length && symbol[length - 1] >= '0' && symbol[length - 1] <= '9') length--;
+        length = length && length < shorter && symbol[length - 1] == '.' ? length - 1 : shorter;
+        for (size_t one = 0; one < sizeof suffixes / sizeof *suffixes; one++) {
+            size_t most = strlen(suffixes[one]);
+            if (length > most && !memcmp(symbol + length - most, suffixes[one], most)) length -= most;
+        }
+    } while (length < shorter);
+    return length;
+}
+
+static bool is_single_colon(const char *at) { return *at == ':' && at[1] != ':' && at[-1] != ':'; }
+
+/* Newer C++ runtimes put a module behind each name: of Counter@bank.core::bump and pay@bank:part the names stay. */
+static void take_modules(char *text) {
+    char *to = text;
+    for (const char *from = text; *from;) {
+        if (*from != '@') {
+            *to++ = *from++;
+            continue;
+        }
+        for (from++; isalnum((unsigned char)*from) || (*from && strchr("._", *from)) || is_single_colon(from);) from++;
+    }
+    *to = 0;
+}
+
 /* A suffix of the compiler or of a version, as in pay.constprop.0 and environ@GLIBC, goes. The parts of a coroutine, as in
  * _Z4loopPZ4loopvE13_Z4loopv.Frame.actor, have it in the midst of their names too. */
 static char *readable_cpp(const char *symbol, bool is_function) {
-    bool is_mangled = __cxa_demangle && !strncmp(symbol, "_Z", 2);
-    char *whole = is_mangled && strstr(symbol, ".Frame.") ? __cxa_demangle(symbol, NULL, NULL, NULL) : NULL;
+    bool is_mangled = !strncmp(symbol, "_Z", 2), is_read = is_mangled && __cxa_demangle;
+    char *whole = is_read && strstr(symbol, ".Frame.") ? __cxa_demangle(symbol, NULL, NULL, NULL) : NULL;
     char *clone = whole ? strstr(whole, " [clone ") : NULL;
-    size_t length = strcspn(symbol, ".@");
+    size_t length = is_function || is_mangled ? strcspn(symbol, ".@") : length_of_variable(symbol);
     char *plain = whole ? NULL : length ? strndup(symbol, length) : strdup(symbol);
-    char *readable = whole || !plain || !is_mangled ? whole : __cxa_demangle(plain, NULL, NULL, NULL);
-    if (!readable && plain && is_mangled && length > 1024) readable = path_of(plain);
+    char *readable = whole || !plain || !is_read ? whole : __cxa_demangle(plain, NULL, NULL, NULL);
+    bool is_path = !readable && plain && is_mangled && (readable = path_of(plain));
     if (clone) *clone = 0;
     if (!readable) return plain;
     free(plain);
-    if (is_function) cut_parameters(readable);
+    take_modules(readable);
+    if (is_function && !is_path) cut_parameters(readable);
     return readable;
 }
 

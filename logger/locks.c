@@ -19,7 +19,7 @@ static void hold(uintptr_t lock, enum holding how) {
     bool has_room = LIKELY(me->holds < FEW_HELD)
         || aero_has_room((void **)&me->held, sizeof *me->held, me->holds - FEW_HELD, &me->held_room);
     if (UNLIKELY(!has_room || (!me->has_end && !aero_end_with_thread()))) {
-        aero_stop("out of memory");
+        aero_stop(CUT_MEMORY, "out of memory");
         return;
     }
     *held_at(me, me->holds) = (struct held){lock, how};
@@ -86,7 +86,7 @@ static bool holders_have_room(void) {
 }
 static void note_holder(uintptr_t lock) {
     if (!holders_have_room()) {
-        aero_stop("out of memory");
+        aero_stop(CUT_MEMORY, "out of memory");
         return;
     }
     struct holder *it = holder_at(lock);
@@ -192,14 +192,14 @@ uintptr_t aero_last_mutex(void) {
 }
 
 void aero_acquired(uintptr_t lock, enum holding how, uintptr_t code) {
-    if (!aero_enter()) return;
+    if (aero_is_of_condition() || !aero_enter()) return;
     aero_lock();
     aero_hold(lock, how, code);
     aero_unlock();
     aero_leave();
 }
 enum holding aero_releasing(uintptr_t lock, uintptr_t code) {
-    if (!aero_enter()) return 0;
+    if (aero_is_of_condition() || !aero_enter()) return 0;
     aero_lock();
     enum holding how = aero_release(lock, code);
     aero_unlock();
@@ -253,10 +253,12 @@ RELEASE(pthread_rwlock_unlock, pthread_rwlock_t)
 
 /* ---- condition variables */
 
-/* The lock is had again however the wait ends, also where the thread is cancelled in it. */
+/* The lock is had again however the wait ends, also where the thread is cancelled in it. In condition_variable_any it isn't that of the
+ * program, whose blocks begin again where that is taken. */
 struct wait {
     uintptr_t lock, code;
     enum holding how;
+    bool is_of_condition;
 };
 static void split(bool begins) {
     if (!aero_settings.splits_waits || !aero_enter()) return;
@@ -265,14 +267,14 @@ static void split(bool begins) {
 }
 static void has_again(void *given) {
     struct wait *wait = given;
-    split(true);
+    if (!wait->is_of_condition) split(true);
     if (wait->how) aero_acquired(wait->lock, wait->how, wait->code);
 }
 
 #define WAIT(name, version, arguments, ...) \
     EXPORT int name(__VA_ARGS__) { \
         REAL_VERSION(int, name, version, __VA_ARGS__) \
-        struct wait wait = {(uintptr_t)lock, HERE, 0}; \
+        struct wait wait = {(uintptr_t)lock, HERE, 0, aero_is_of_condition()}; \
         int result; \
         wait.how = aero_releasing(wait.lock, wait.code); \
         split(false); \

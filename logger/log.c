@@ -37,8 +37,7 @@
  * The end. At exit, _exit, quick_exit, abort, a failed assert and a signal that ends the process, the ending thread's blocks are
  * ended, and the log is written out; then the command behind `|` is waited for. Blocks of other threads stay open. exec writes the
  * log out, and so does a system call by syscall() or prctl() that ends or restricts the process (calls.c). A process that SIGKILL
- * or an exit of its own machine code ends loses what the buffer holds (up to 1 MiB); the file ends with a whole line, unless the
- * signal came while it was written.
+ * or an exit of its own machine code ends loses what the buffer holds (up to 1 MiB). A log that ends early ends with a mark (output.c).
  *
  *   fork()       the child logs nothing; where the target has %p it begins a log of its own, in which it is T1. The parent goes on.
  *   signals      a handler's events are its thread's. One that comes into the logger waits until its thread leaves that (signals.c).
@@ -46,39 +45,29 @@
  *                leaves by longjmp, the event that was about to be logged isn't; while the log is written out, it ends.
  *   longjmp      the functions that it leaves end there. C++ exceptions and pthread_exit end the blocks that they leave.
  *   a thread that ends within blocks or with locks: they are ended and released there.
- *   errors       one line on standard error, and the program goes on unlogged. What was written ends with a whole line.
+ *   errors       one line on standard error, and the program goes on unlogged. What was written ends with whole lines and a mark.
  */
 #include "log.h"
+#include "words.h"
 
 #include <dlfcn.h>
-#include <poll.h>
-#include <signal.h>
 #include <stdio.h>
 #include <string.h>
 #include <sys/mman.h>
-#include <sys/stat.h>
 #include <sys/syscall.h>
-#include <time.h>
 #include <unistd.h>
 
 /* More than a line ever has. */
 #define MOST_LINE 4096
-#define LOG_BUFFER (1 << 20)
-#define MOST_THREADS 65536
+/* The checker takes one more, which is that of the mark. */
+#define MOST_THREADS 65535
 
 atomic_int aero_state;
 int aero_grain;
 __thread struct thread aero_me;
 
 lock_word aero_log_lock;
-static volatile bool flushing;
 static atomic_int last_number;
-static const char *target;
-static char buffer[LOG_BUFFER];
-/* The bytes of the buffer that lines have, and how many of these are in the file. What a line has counts once it is whole, so
- * that a signal finds whole lines. */
-static volatile size_t used, sent;
-static uint64_t written, limit;          /* written: without what the buffer has */
 
 void *aero_next(struct next *next) {
     void *found = next->version ? dlvsym(RTLD_NEXT, next->name, next->version) : NULL;
@@ -115,13 +104,11 @@ bool aero_has_room(void **items, size_t size, size_t count, size_t *room) {
     return true;
 }
 
-/* The checker takes no more threads. */
 static void stop_before_too_many(void) {
     int before = aero_me.busy;
     aero_me.busy = 1;
     aero_lock();
-    aero_flush();
-    aero_stop("it has more than 65536 threads");
+    aero_stop(CUT_THREADS, "it has more than 65535 threads");
     aero_unlock();
     aero_be_busy_as(before);
 }
@@ -143,102 +130,7 @@ void aero_say(const char *what, const char *why) {
 
 /* ---- writing */
 
-void aero_empty(void) {
-    used = sent = 0;
-    written = 0;
-    atomic_store(&last_number, 0);
-}
-
-bool aero_has_lines(void) { return used || written; }
-
-void aero_write_to(const char *said) {
-    target = said;
-    int64_t most = aero_settings.limit;
-    struct stat is;
-    bool endless = fstat(aero_log.number, &is) || !S_ISREG(is.st_mode);
-    limit = most >= 0 ? (uint64_t)most : endless ? 0 : (uint64_t)1 << 30;
-}
-
-/* Leaves the file with whole lines, and says whether it could. What is no file keeps what was written. */
-static bool cut(void) {
-    struct stat is;
-    size_t whole = sent;
-    while (whole && buffer[whole - 1] != '\n') whole--;
-    written += whole;
-    if (!aero_is_kept(&aero_log) || fstat(aero_log.number, &is) || !S_ISREG(is.st_mode)) return true;
-    return !ftruncate(aero_log.number, (off_t)written);
-}
-
-void aero_stop(const char *why) {
-    char text[256];
-    used = sent = 0;
-    aero_clear();
-    if (atomic_exchange(&aero_state, OFF) != ON) return;
-    snprintf(text, sizeof text, "%.200s: the rest isn't logged", why);
-    aero_say(target, text);
-}
-
-/* Writes the buffer out as far as it goes, and says whether all of it went. A pipe that is full is waited for, and only there
- * signals come through, so that `sent` is right for whoever writes out at the end. By system calls, as the functions of the C
- * library let a thread be cancelled. */
-static bool write_out(const sigset_t *masked) {
-    while (sent < used) {
-        errno = EBADF;
-        if (!aero_is_kept(&aero_log)) return false;
-        long more = syscall(SYS_write, aero_log.number, buffer + sent, used - sent);
-        struct pollfd pipe = {aero_log.number, POLLOUT, 0};
-        if (more > 0) sent += (size_t)more;
-        else if (more == 0) errno = ENOSPC;
-        else if (errno == EAGAIN && syscall(SYS_ppoll, &pipe, 1L, NULL, masked, (size_t)_NSIG / 8) > 0) continue;
-        if (more <= 0 && errno != EINTR) return false;
-    }
-    written += used;
-    used = sent = 0;
-    return true;
-}
-
-/* Takes back the signal that a failed write has sent, as a pipe or a file takes no more, unless one was pending before. */
-static void take_back(int signal, const sigset_t *pending) {
-    const struct timespec none = {0, 0};
-    sigset_t one;
-    sigemptyset(&one);
-    sigaddset(&one, signal);
-    if (!sigismember(pending, signal)) sigtimedwait(&one, NULL, &none);
-}
-
-/* Signals wait, but for those by which somebody ends a program that doesn't handle them: they come while a pipe is waited for. */
-void aero_flush(void) {
-    static const int through[] = {SIGINT, SIGTERM, SIGQUIT, SIGHUP, SIGABRT};
-    if (!used || aero_log.number < 0) return;
-    sigset_t all, masked, before, pending;
-    sigfillset(&all);
-    sigpending(&pending);
-    pthread_sigmask(SIG_BLOCK, &all, &before);
-    masked = all;
-    for (size_t one = 0; one < sizeof through / sizeof *through; one++)
-        if (!sigismember(&before, through[one]) && !aero_is_handled(through[one])) sigdelset(&masked, through[one]);
-    flushing = true;
-    bool is_clear = aero_clear();
-    if (!is_clear || !write_out(&masked)) {
-        int why = errno;
-        bool is_whole = !is_clear || cut();
-        take_back(SIGPIPE, &pending);
-        take_back(SIGXFSZ, &pending);
-        aero_stop(why == EPIPE ? "its reader has ended" : why == EBADF ? "the program has closed it" : strerror(why));
-        if (!is_whole) aero_say(target, "its last line isn't whole, and can't be taken out");
-    }
-    flushing = false;
-    pthread_sigmask(SIG_SETMASK, &before, NULL);
-}
-
-/* The line that was begun isn't written, as what it tells of isn't done. What can't be taken up again there ends the log. */
-void aero_interrupted(void) {
-    int log = aero_writes();
-    if (log && flushing && atomic_exchange(&aero_state, OFF) == ON)
-        aero_say(target, "a signal handler has left the logger by longjmp: the rest isn't logged");
-    if (log) aero_unlock();
-    aero_me.busy = 0;
-}
+void aero_count_anew(void) { atomic_store(&last_number, 0); }
 
 static inline char *put_target(char *to, const char *kind, uintptr_t address, const char *text) {
     *to++ = '(';
@@ -248,12 +140,22 @@ static inline char *put_target(char *to, const char *kind, uintptr_t address, co
     return to;
 }
 
+/* Whether the access `r(X)` or `w(X)` is one to a counter of the compiler's own: of --coverage, -fprofile-.. and -fsanitize-coverage. */
+static bool is_counter(const char *name) {
+    static const char *const heads[] = {"__gcov", "__llvm_gcov", "__llvm_prf", "__profc_", "__profd_", "__sancov_gen_"};
+    if (LIKELY(name[0] != '_' || name[1] != '_')) return false;
+    for (size_t one = 0; one < sizeof heads / sizeof *heads; one++)
+        if (begins(name, heads[one])) return true;
+    return false;
+}
+
 void aero_line(const char *operation, const char *kind, uintptr_t address, const char *text, uintptr_t code) {
     if (UNLIKELY(atomic_load_explicit(&aero_state, memory_order_relaxed) != ON)) return;
-    char *from = buffer + used;
+    char *from = aero_buffer + aero_used;
     memcpy(from, aero_me.prefix, sizeof aero_me.prefix);
     char *to = aero_put_text(from + aero_me.length, operation);
     if (kind) to = put_target(to, kind, address, text);
+    if (UNLIKELY(kind && !text && is_counter(from + aero_me.length + 2))) return;
     if (UNLIKELY(code && aero_me.outside)) code = aero_me.outside;
     const struct code *place = code ? aero_code(code) : NULL;
     if (LIKELY(place != NULL)) {
@@ -261,15 +163,14 @@ void aero_line(const char *operation, const char *kind, uintptr_t address, const
         for (unsigned left = place->length; left; left--) *to++ = *byte++;
     }
     *to++ = '\n';
-    size_t now = (size_t)(to - buffer);
-    if (UNLIKELY(limit && written + now > limit)) {
-        aero_flush();
-        if (atomic_load(&aero_state) == ON) aero_stop("AERODROME_LIMIT is reached");
+    size_t now = (size_t)(to - aero_buffer);
+    if (UNLIKELY(aero_limit && aero_written + now > aero_limit)) {
+        aero_stop(CUT_LIMIT, "AERODROME_LIMIT is reached");
         return;
     }
     atomic_signal_fence(memory_order_seq_cst);
-    used = now;
-    if (UNLIKELY(now > sizeof buffer - MOST_LINE)) aero_flush();
+    aero_used = now;
+    if (UNLIKELY(now > sizeof aero_buffer - MOST_LINE)) aero_flush();
 }
 
 void aero_event(const char *operation, const char *kind, uintptr_t address, uintptr_t code) {

@@ -94,6 +94,7 @@ struct thread {
     struct held few[FEW_HELD], *held;    /* the first ones, and those behind them */
     size_t holds, held_room;
     struct locking locking;
+    struct stack *stack;     /* NULL: it isn't known */
 };
 extern __thread struct thread aero_me;
 
@@ -127,15 +128,10 @@ extern lock_word aero_log_lock;
 static inline void aero_lock(void) { aero_take(&aero_log_lock); }
 static inline void aero_unlock(void) { aero_let_go(&aero_log_lock); }
 static inline bool aero_writes(void) { return aero_has(&aero_log_lock); }   /* whether the calling thread holds the log's lock */
-void aero_interrupted(void);         /* a signal handler that came into the logger leaves it by longjmp */
 void aero_number(int number);        /* gives the calling thread its number */
 int aero_next_number(void);          /* none of the logger's locks is held */
 void aero_say(const char *what, const char *why);   /* one line on standard error */
-void aero_stop(const char *why);     /* says why on standard error; the log's lock is held */
-void aero_flush(void);               /* writes out what is there; the log's lock is held */
-void aero_write_to(const char *target);
-void aero_empty(void);               /* drops what the buffer has, and begins to count anew */
-bool aero_has_lines(void);           /* whether a line was written, or is in the buffer */
+void aero_count_anew(void);          /* the next thread is the first one */
 void *aero_pages(size_t bytes);      /* zeroed memory, or NULL */
 void aero_free_pages(void *at, size_t bytes);
 /* Makes room for one item of `size` bytes more behind `count` of them, and says whether there is some. */
@@ -145,6 +141,28 @@ bool aero_has_room(void **items, size_t size, size_t count, size_t *room);
 void aero_line(const char *operation, const char *kind, uintptr_t address, const char *text, uintptr_t code);
 /* The same as an event of its own, which takes the log's lock. */
 void aero_event(const char *operation, const char *kind, uintptr_t address, uintptr_t code);
+
+/* output.c */
+#define LOG_BUFFER (1 << 20)
+extern char aero_buffer[LOG_BUFFER];
+/* The bytes of the buffer that lines have. What a line has counts once it is whole, so that a signal finds whole lines. */
+extern volatile size_t aero_used;
+extern uint64_t aero_written, aero_limit;    /* written: without what the buffer has */
+/* The last line of a log that ends early, and the reasons for that. */
+#define AERO_MARK(reason) "aerodrome|begin(cut:" reason ")|0\n"
+#define AERO_KILLED AERO_MARK("killed")
+enum cut { CUT_LIMIT, CUT_WRITE, CUT_THREADS, CUT_MEMORY, CUT_FIBER, CUT_BLOCKS };
+void aero_write_to(const char *target);
+void aero_empty(void);               /* drops what the buffer has */
+bool aero_has_lines(void);           /* whether a line was written, or is in the buffer */
+/* With the log's lock held: */
+void aero_flush(void);               /* writes out what is there */
+void aero_stop(enum cut cut, const char *why);   /* ends the log early, and says why on standard error */
+void aero_cut(enum cut cut);         /* the same without a word */
+void aero_unmark(void);              /* writes out what is there, and leaves a whole log */
+void aero_mark(void);                /* takes that back, as the program goes on */
+void aero_write_only(void);          /* from now on no system call but `write` may be allowed */
+void aero_interrupted(void);         /* a signal handler that came into the logger leaves it by longjmp */
 
 /* signals.c */
 void aero_handle(void);              /* runs the handler that waits */
@@ -197,7 +215,6 @@ bool aero_target_fits(const char *said);       /* whether it fits into these, wh
 bool aero_target_is_of_process(const char *said);   /* whether each process has a target of its own, by %p */
 const char *aero_target(const char *said);     /* with the process's number in the place of each %p */
 bool aero_open(const char *target);            /* opens the log, and says whether it could */
-bool aero_clear(void);                         /* takes away what says that nothing is written yet; whether it is gone */
 bool aero_remove(void);                        /* removes the file, which has no line, and says whether it did */
 bool aero_close(void);                         /* closes the log, and says whether it is whole; its lock is held */
 void aero_end_command(bool waits);             /* lets go of the command that reads it, and waits for its end, if it is to */
@@ -245,7 +262,9 @@ void aero_behind_exec(bool entered);           /* it has failed */
 
 /* names.c */
 extern lock_word aero_names_lock;
-enum { IS_BLOCK = 1, IS_RUNTIME = 2, LOCK_FUNCTION = 4 };    /* and LOCK_FUNCTION times what aero_lock_function says */
+/* The kind of a function, with LOCK_FUNCTION times what aero_lock_function says. OF_CONDITION is a function of condition_variable_any,
+ * OF_PROGRAM one by which it uses what the program has given it, and RELOCKS that which takes the program's lock again. */
+enum { IS_BLOCK = 1, IS_RUNTIME = 2, OF_CONDITION = 4, OF_PROGRAM = 8, RELOCKS = 16, LOCK_FUNCTION = 32 };
 struct code {
     _Atomic uintptr_t at;            /* 0: other code is there by now */
     _Atomic(const char *) label;     /* of the function that it lies in; NULL: not looked up yet */
@@ -257,6 +276,7 @@ struct code {
 void aero_names_start(void);
 void aero_library_loaded(uintptr_t code);             /* that has code there: its names are read */
 bool aero_is_loaded(const char *file, size_t length); /* whether that of a library is called so */
+bool aero_is_of_unwinder(uintptr_t code);             /* or of what C++ has for locales */
 void aero_lock_names(void);
 void aero_unlock_names(void);
 const struct code *aero_code(uintptr_t at);           /* NULL where memory is refused */
@@ -305,6 +325,22 @@ void aero_memory_start(void);
 uint16_t *aero_parts_at(uintptr_t address);
 void aero_renew(uintptr_t from, uintptr_t to);        /* what lies there is new variables */
 uint32_t aero_generation(uintptr_t address);          /* how often it was renewed */
+void aero_mark_stack(uintptr_t low, uintptr_t high);  /* accesses to its pages are noted */
+
+/* stacks.c */
+struct stack {                       /* of a thread; of one that has ended both ends are 0 */
+    uintptr_t low, high;
+    _Atomic uintptr_t noted, noted_end;      /* from there on and up to there others have accessed it; 0: nowhere */
+    struct stack *next;
+};
+void aero_stacks_start(void);                         /* with that of main */
+void aero_note_stack(uintptr_t low, uintptr_t high);  /* the calling thread's, which has new variables */
+void aero_forget_stack(void);                         /* as the thread ends */
+bool aero_note_access(uintptr_t address);             /* to a page of a stack; whether it still is one. The log's lock is held */
+void aero_renew_below(uintptr_t end);                 /* the functions whose frames lie below the address are left */
+static inline bool aero_is_noted(const struct stack *stack) {
+    return stack && UNLIKELY(atomic_load_explicit(&stack->noted, memory_order_relaxed) != 0);
+}
 
 /* parts.c */
 /* A copy may be of several variables at a time. */
@@ -319,16 +355,20 @@ void aero_look_for_blocks(const char *file);          /* the same of a library t
 void aero_lacks_main(const char *file);               /* the program has no function of that name */
 void aero_lacks_name(const char *file);               /* a function that was entered has none */
 void aero_lacks_file(const char *file);               /* a library with hooks can't be read, so no function of it has a name */
-void aero_tell_never_loaded(void);                    /* which libraries names are of that weren't there, in lines */
+bool aero_tell_never_loaded(void);                    /* which libraries names are of that weren't there, in a line, if there are some */
+bool aero_wants_blocks(void);                         /* whether AERODROME_BLOCKS names some */
 int aero_kind(const char *label, const char *symbol, const char *file);    /* symbol: NULL where it has no name */
 bool aero_starts_are_blocks(void);                    /* whether the functions are that threads start with */
 
 /* blocks.c */
 extern bool aero_has_entered;                         /* a function that has hooks */
+extern bool aero_has_begun;                           /* a block */
 void aero_left(uintptr_t frame);                      /* ends the blocks of functions below the frame */
 void aero_end_blocks(void);                           /* ends all of the calling thread's; the log's lock is held */
 void aero_forget_blocks(void);                        /* as the log that they began in isn't written here */
 void aero_split_blocks(bool begins);                  /* ends them where they are to be split, and then begins them again */
+bool aero_looks_for_condition(void);                  /* in a function of the runtime: whether condition_variable_any does this for itself */
+static inline bool aero_is_of_condition(void) { return UNLIKELY(aero_me.outside) && aero_looks_for_condition(); }
 /* Ends them where a thread starts or is joined, if they are to; the log's lock is held. */
 void aero_split_at_thread(void);
 

@@ -2,6 +2,7 @@
 #include "log.h"
 #include "memory.h"
 
+#include <stdarg.h>
 #include <sys/mman.h>
 
 /* ---- what is allocated again */
@@ -14,18 +15,23 @@ struct leaf {
     uint32_t units[1 << (LEAF_BITS - UNIT_BITS)];
     uint32_t pages[1 << (LEAF_BITS - PAGE_BITS)];
     uint16_t parts[1 << (LEAF_BITS - 3)];                /* parts.c */
-    unsigned char has_parts[1 << (LEAF_BITS - PAGE_BITS)];
+    unsigned char has_parts[1 << (LEAF_BITS - PAGE_BITS)];    /* USED, and OF_STACK */
 };
+enum { USED = 1, OF_STACK = 2 };
 static _Atomic(struct leaf *) leaves[1 << (47 - LEAF_BITS)];
 static bool with_fresh;
 
 void aero_memory_start(void) { with_fresh = aero_settings.fresh; }
 
+/* Without them two objects at one address would be one variable. So the log ends. */
 static struct leaf *refused(void) {
-    static atomic_int told;
-    if (!atomic_exchange(&told, 1))
-        aero_say("AERODROME_LOG", "there is no room of addresses for its tables (ulimit -v): memory that is allocated again keeps "
-                                  "its names, and parts of a variable aren't known as such");
+    int before = aero_me.busy;
+    bool within = aero_writes();
+    aero_me.busy = 1;
+    if (!within) aero_lock();
+    aero_stop(CUT_MEMORY, "there is no room of addresses for its tables (ulimit -v)");
+    if (!within) aero_unlock();
+    aero_be_busy_as(before);
     return NULL;
 }
 
@@ -57,15 +63,24 @@ uint16_t *aero_parts_at(uintptr_t address) {
     struct leaf *leaf = leaf_of(address, true);
     if (!leaf) return NULL;
     unsigned char *has = has_parts(leaf, address);
-    if (UNLIKELY(!*has)) *has = 1;
+    if (*has & OF_STACK && !aero_note_access(address)) *has = USED;
+    if (UNLIKELY(!(*has & USED))) *has |= USED;
     return &leaf->parts[part_of(address)];
 }
 
 /* What lies there, a unit or a page, has no parts any more. */
 static void forget_parts(struct leaf *leaf, uintptr_t from, uintptr_t bytes, bool whole) {
-    if (LIKELY(!*has_parts(leaf, from))) return;
+    if (LIKELY(!(*has_parts(leaf, from) & USED))) return;
     for (uintptr_t byte = 0; byte < bytes; byte += 8) leaf->parts[part_of(from + byte)] = 0;
-    if (whole) *has_parts(leaf, from) = 0;
+    if (whole) *has_parts(leaf, from) &= OF_STACK;
+}
+
+void aero_mark_stack(uintptr_t low, uintptr_t high) {
+    for (uintptr_t at = low & -(uintptr_t)(1 << PAGE_BITS); at < high; at += 1 << PAGE_BITS) {
+        struct leaf *leaf = leaf_of(at, true);
+        if (!leaf) return;
+        *has_parts(leaf, at) |= OF_STACK;
+    }
 }
 
 uint32_t aero_generation(uintptr_t address) {
@@ -98,6 +113,19 @@ EXPORT void *mmap(void *wanted, size_t bytes, int protection, int flags, int fil
 }
 EXPORT void *mmap64(void *wanted, size_t bytes, int protection, int flags, int file, off64_t offset) {
     return mmap(wanted, bytes, protection, flags, file, offset);
+}
+
+/* What was moved, or lies behind what was there, is new variables. */
+EXPORT void *mremap(void *old, size_t old_bytes, size_t bytes, int flags, ...) {
+    REAL(void *, mremap, void *, size_t, size_t, int, ...)
+    va_list list;
+    va_start(list, flags);
+    void *wanted = flags & MREMAP_FIXED ? va_arg(list, void *) : NULL;
+    va_end(list);
+    char *at = real(old, old_bytes, bytes, flags, wanted);
+    size_t kept = at == old && old_bytes < bytes ? old_bytes : at == old ? bytes : 0;
+    if (at != MAP_FAILED) aero_renew((uintptr_t)at + kept, (uintptr_t)at + bytes);
+    return at;
 }
 
 /* ---- accesses */

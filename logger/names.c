@@ -1,5 +1,6 @@
 /* Names of functions and global variables of the program and its libraries, and of places in the code. */
 #include "log.h"
+#include "words.h"
 
 #include <elf.h>
 #include <link.h>
@@ -466,8 +467,22 @@ const struct code *aero_function(uintptr_t at) {
 
 bool aero_is_loaded(const char *file, size_t length) {
     for (int place = 0; place < object_count; place++)
-        if (strlen(objects[place].name) == length && !memcmp(objects[place].name, file, length)) return true;
+        if (matches(file, length, objects[place].name)) return true;
     return false;
+}
+
+/* The program may contain them. */
+bool aero_is_of_unwinder(uintptr_t code) {
+    static const char *const files[] = {"libgcc_s.so", "libstdc++.so", "libunwind.so", "libc++"},
+                      *const symbols[] = {"uw_", "_Unwind_", "_ZNSt6locale", "_ZNKSt6locale"};
+    bool is_found = false;
+    aero_lock_names();
+    const struct object *object = object_at(code);
+    const struct symbol *symbol = object ? aero_symbol_at(&object->functions, code) : NULL;
+    for (size_t one = 0; object && one < sizeof files / sizeof *files; one++)
+        is_found |= begins(object->name, files[one]) || (symbol && begins(symbol->name, symbols[one]));
+    aero_unlock_names();
+    return is_found;
 }
 
 void aero_each_function(const char *file, bool (*each)(const char *label, const char *symbol, const char *file)) {

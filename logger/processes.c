@@ -13,7 +13,9 @@ static bool is_child;
 
 bool aero_is_child(void) { return is_child; }
 
-/* The log is written out first, as the parent may end without a word, by daemon(). */
+static __thread bool becomes_daemon;
+
+/* The log is written out first. By daemon() the parent ends without a word, so it is a whole one then. */
 static void before_fork(void) {
     is_forked = aero_log.number >= 0;
     if (!is_forked) return;
@@ -22,7 +24,8 @@ static void before_fork(void) {
     if (!within) {
         if (!aero_me.number) aero_meet_thread();
         aero_lock();
-        aero_flush();
+        if (becomes_daemon) aero_unmark();
+        else aero_flush();
     }
     aero_lock_names();
     aero_lock_threads();
@@ -65,6 +68,7 @@ static void in_child(void) {
     aero_close();
     aero_end_command(false);
     aero_empty();
+    aero_count_anew();
     aero_unlock();
     aero_forget_handler();
     if (logs) log_child();
@@ -79,6 +83,22 @@ __attribute__((section(".preinit_array"), used)) static void (*const before_all)
 bool aero_processes_start(void) {
     if (!is_registered) at_first();
     return is_registered;
+}
+
+/* Where no child can be made, the program goes on. */
+EXPORT int daemon(int stays, int keeps) {
+    REAL(int, daemon, int, int)
+    pid_t before = getpid();
+    becomes_daemon = true;
+    int result = real(stays, keeps);
+    becomes_daemon = false;
+    if (!result || getpid() != before || !aero_enter()) return result;
+    aero_me.error = errno;
+    aero_lock();
+    aero_mark();
+    aero_unlock();
+    aero_leave();
+    return result;
 }
 
 /* ---- children that another way has made, without what pthread_atfork has */
@@ -109,8 +129,8 @@ bool aero_before_exec(void) {
     }
     if (!aero_enter()) return false;
     aero_lock();
-    aero_flush();
     is_removed = !aero_has_lines() && aero_remove();
+    aero_unmark();
     return true;
 }
 void aero_behind_exec(bool entered) {
@@ -119,7 +139,8 @@ void aero_behind_exec(bool entered) {
     if (is_removed) {
         aero_close();
         if (!aero_open(aero_target(aero_settings.target))) atomic_store(&aero_state, OFF);
-    }
+        else aero_write_to(aero_target(aero_settings.target));
+    } else aero_mark();
     aero_unlock();
     aero_leave();
     errno = error;

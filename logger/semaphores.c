@@ -40,7 +40,7 @@ static bool has_room(void) {
     size_t old_room = room, more = room ? 2 * room : 128;
     struct semaphore *made = aero_pages(more * sizeof *made);
     if (!made) {
-        aero_stop("out of memory");
+        aero_stop(CUT_MEMORY, "out of memory");
         return false;
     }
     all = made;

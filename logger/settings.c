@@ -9,7 +9,8 @@
  *   AERODROME_GRAIN    bytes of one variable: 1, 2, 4, 8; without it they are as they are accessed (parts.c)
  *   AERODROME_FRESH    0: memory that is allocated again has the old names (1)
  *   AERODROME_PLACES   0: no places in the code (1)
- *   AERODROME_LIMIT    at most so many bytes are written, 0: any number (1G; for a pipe 0). K, M and G are 2^10, 2^20 and 2^30
+ *   AERODROME_LIMIT    at most so many bytes are written, 100 or more, 0: any number (1G; for a pipe 0). K, M and G are
+ *                      2^10, 2^20 and 2^30
  *
  * One that can't be used is told of in a line, and nothing is logged. */
 #include "log.h"
@@ -45,5 +46,6 @@ bool aero_read_settings(const char *target) {
     if (stir && (it->stir = number_in(stir)) < 0) return refuses("AERODROME_STIR", stir, "a number");
     if (limit && (it->limit = number_in(limit)) < 0)
         return refuses("AERODROME_LIMIT", limit, "a number of bytes, as 4096, 500K, 20M or 1G,");
+    if (it->limit > 0 && it->limit < 100) return refuses("AERODROME_LIMIT", limit, "0 or at least 100");
     return true;
 }

@@ -28,6 +28,7 @@ void aero_start(void) {
     aero_ends_start();
     aero_signals_start();
     atomic_store(&aero_state, ON);
+    aero_stacks_start();
 }
 __attribute__((constructor(101))) static void early(void) {
     aero_find_next();

@@ -19,7 +19,6 @@ static struct kept command_ends = NONE;     /* reads nothing until the command b
 static char folder[4096];                   /* in which the program has started; a child of its may be elsewhere */
 static struct kept logs_folder = NONE;      /* that of the logs that children write, which may be in another root */
 static char path[2 * sizeof folder];        /* of the log's file */
-static bool is_marked;                      /* the file has the mark, and no line */
 
 /* ---- files that are kept open */
 
@@ -198,18 +197,12 @@ static int folder_of(const char **name) {
     return *name == path ? AT_FDCWD : logs_folder.number;
 }
 
-/* Until lines are written the file has a text that is no trace, so that nobody takes the log of a program that was killed for one
- * without a violation. Where files may have no byte, writing would end the program. */
+/* Until lines are written the file has a text that is no trace before the mark of a program that was killed. Where files may have no byte,
+ * writing would end the program. */
 static void mark(int file) {
-    static const char text[] = "aerodrome-log: the program has ended before it wrote its first lines";
+    static const char text[] = "aerodrome-log: the program has ended before it wrote its first lines\n" AERO_KILLED;
     struct rlimit most;
-    if (!getrlimit(RLIMIT_FSIZE, &most) && most.rlim_cur < sizeof text) return;
-    is_marked = pwrite(file, text, sizeof text - 1, 0) > 0;
-}
-bool aero_clear(void) {
-    if (!is_marked || !aero_is_kept(&aero_log)) return true;
-    is_marked = ftruncate(aero_log.number, 0) != 0;
-    return !is_marked;
+    if (getrlimit(RLIMIT_FSIZE, &most) || most.rlim_cur >= sizeof text) pwrite(file, text, sizeof text - 1, 0);
 }
 
 /* Opens the file. One that another process writes its log to stays as it is; so it is emptied only once it is locked. */
@@ -247,7 +240,6 @@ static bool never_blocks(int file) {
 
 bool aero_open(const char *target) {
     bool is_command = *target == '|';
-    is_marked = false;
     if (!*folder && !getcwd(folder, sizeof folder)) strcpy(folder, ".");
     *path = 0;
     if (is_command) start_command(target + 1);

@@ -130,6 +130,7 @@ static void ends(void *unused) {
         aero_lock();
         aero_end_thread();
         aero_unlock();
+        aero_forget_stack();
     }
     free_memory(&aero_me);
     aero_drop_signal_stack();
@@ -177,7 +178,7 @@ static void renew_stack(void) {
     void *low;
     size_t size;
     if (pthread_getattr_np(pthread_self(), &attributes)) return;
-    if (!pthread_attr_getstack(&attributes, &low, &size)) aero_renew((uintptr_t)low, (uintptr_t)low + size);
+    if (!pthread_attr_getstack(&attributes, &low, &size)) aero_note_stack((uintptr_t)low, (uintptr_t)low + size);
     pthread_attr_destroy(&attributes);
 }
 

@@ -8,6 +8,8 @@ from typing import Optional
 from .names import Json, bytes_of, counted, json_of
 from .trace import Trace
 
+# The thread of the block that a logger begins where it ends a log early, and how its label begins.
+LOGGER, CUT = b"aerodrome", b"cut:"
 # (a label may begin no block of this trace, and one of the next)
 ON_LABELS = re.compile(rb"^aerodrome: no block begins with (begin\(|[0-9]+ more of the labels).*\n", re.M)
 
@@ -26,6 +28,18 @@ class Answer:
         self.refusal = ""
         # (the program knows a file by the name that it was given)
         report["source"] = json_of(trace.word)
+
+    @property
+    def has_block(self) -> bool:
+        """Whether a block was checked, or the trace isn't judged to its end."""
+        return self.verdict != "serializable" or self.report["blocks"] > 0
+
+    @property
+    def cut(self) -> str:
+        """The label that says why a logger ended the log early; empty if it didn't."""
+        blocks = self.report.get("opened", ()) if self.verdict == "open" else ()
+        labels = [bytes_of(it["label"]) for it in blocks if "label" in it and bytes_of(it["thread"]) == LOGGER]
+        return next((label.decode("ascii", "replace") for label in labels if label.startswith(CUT)), "")
 
     @property
     def text(self) -> bytes:

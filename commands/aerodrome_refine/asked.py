@@ -30,6 +30,8 @@ they are one finding, which names the innermost of them.
   --continue FILE      leave out the labels of FILE from the start, and append those that are found
   --check FILE         leave out the labels of FILE; return status 1 if another block is blamed, and print the lines of FILE that
                        are no longer needed
+  --fail-unchecked     return status 1 instead of 0 if no block begins in any TRACE, or none with a label of --only. Blocks that are
+                       left out by --except, --continue or --check count
   --progress           show a line about progress even if standard error isn't a terminal
   --quiet              show no progress
   -h, --help           print this help
@@ -42,7 +44,7 @@ The exit status is the highest that the program returns for a TRACE without thes
   0  no violation is left; also after --help
   1  a violation is left, because its block has no label, has the last label of --only, or has a label that neither a file nor an
      option can hold, because 65536 labels are left out already, or because of --most; or --check found another blamed block; or a
-     TRACE has open blocks with --fail-open
+     TRACE has open blocks with --fail-open; or nothing was checked with --fail-unchecked
   2  a TRACE is malformed, ill-formed, broken or too large
   3  the command line or the FILE of an option was refused
   4  memory ran out, or the output or a temporary file couldn't be written
@@ -70,6 +72,7 @@ class Asked:
     output: bytes = b""
     continued: bytes = b""
     checked: bytes = b""
+    fail_unchecked: bool = False
     progress: bool = False
     quiet: bool = False
 
@@ -88,8 +91,8 @@ def settle(words: list[bytes]) -> Asked:
             raise Ended(3, f"{name.decode()} isn't accepted here")
         elif name in (*LISTS, *FILES, *NUMBERS, *PASSED_ON, b"--format"):
             set_value(asked, name, value if equals else next(left, None))
-        elif word in (b"--progress", b"--quiet"):
-            setattr(asked, word[2:].decode(), True)
+        elif word in (b"--progress", b"--quiet", b"--fail-unchecked"):
+            setattr(asked, word[2:].decode().replace("-", "_"), True)
         elif word.startswith(b"-") and word != b"-":
             # (each pass stops, and none shows an order)
             asked.options += [word] if word not in (b"--stop", b"--order") else []

@@ -53,9 +53,14 @@ def judge(asked: Asked, passes: Passes, labels: Labels) -> int:
         output.left(answer)
         if answer.refusal:
             say(answer.refusal)
+        if answer.cut:
+            say(f"{printable(answer.trace.name).decode()}: the log was cut ({answer.cut}), so this is only on its lines before that")
         tell(answer.notes)
     status = check(asked, refined) if asked.checked else 0
     output.end(refined, bool(asked.checked))
+    if asked.fail_unchecked and not refined.has_block(labels):
+        say("no block was checked in any TRACE")
+        status = max(status, 1)
     return max(status, *(answer.status for answer in refined.left))
 
 

@@ -27,6 +27,11 @@ class Refinement:
             self.refine_one(place)
             place = next(self.stale(place, self.labels), None)
 
+    def has_block(self, labels: Labels) -> bool:
+        """Whether a block begins in a trace. These labels were left out from the start, or were the only ones."""
+        begun = (set(labels) - set(map(bytes_of, it.summary.get("unused", ()))) for it in self.left)
+        return bool(self.found) or any(it.has_block for it in self.left) or any(begun)
+
     def stale(self, place: int, labels: Labels) -> Iterator[int]:
         """The traces that weren't judged by these labels yet, in the order in which they are judged after this one."""
         places = itertools.chain(range(place + 1, len(self.traces)), range(place))

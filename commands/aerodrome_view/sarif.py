@@ -65,6 +65,12 @@ RULES = {  # by verdict, or by the word of rule_of: the rule's name, its level, 
         "The trace has no block to check, so its verdict means nothing.",
         "Log where blocks begin and end, or leave out fewer of them.",
     ),
+    "cut": (
+        "LogCut",
+        "warning",
+        "The log ends early, so the verdict is only on its first lines.",
+        "Remove the reason that the result names, and log the program again.",
+    ),
 }
 VERDICTS = list(RULES)
 MOST_REASONS = 20  # in a message
@@ -87,7 +93,9 @@ def driver(version: str) -> Json:
 
 
 def rule_of(finding: Finding) -> str:
-    """The rule: the verdict, or another one if a note says that nothing was checked."""
+    """The rule: the verdict, or another one if a note says that nothing was checked, or an open block that the log was cut."""
+    if words.why_cut(finding):
+        return "cut"
     return "unchecked" if finding.verdict == "serializable" and finding.note else finding.verdict
 
 

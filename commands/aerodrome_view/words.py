@@ -38,6 +38,19 @@ MOSTLY = {  # the usual reasons why an event is impossible
 }
 
 
+LOGGER = b"aerodrome"  # the thread of the block that a logger begins where it ends a log early
+CUT = {  # the reasons, by the label of this block
+    b"cut:limit": "AERODROME_LIMIT was reached",
+    b"cut:write": "a line couldn't be written",
+    b"cut:threads": "the program had more threads than the logger can number",
+    b"cut:memory": "the logger got no memory for its tables",
+    b"cut:fiber": "the program switched stacks, so the logger couldn't tell its threads apart",
+    b"cut:blocks": "a library that the program loaded lacks a function that AERODROME_BLOCKS names",
+    b"cut:lock": "a thread kept the log's lock for ten seconds",
+    b"cut:killed": "the program ended without ending the log, for example because it was killed",
+}
+
+
 @dataclass(frozen=True)
 class Arrow:
     """A conflict of two events that follow each other in a cycle: the transaction of the first event must come first."""
@@ -214,13 +227,19 @@ def sentence(finding: Finding, options: Options, dress: Dress, quote: Dress = sh
     return f"Each block behaves as if it had run alone ({size})."
 
 
+def why_cut(finding: Finding) -> str:
+    """The reason why a logger ended the trace early; empty if the report has no block that says so."""
+    return next((CUT[one.label] for one in finding.opened if one.thread == LOGGER and one.label in CUT), "")
+
+
 def unfinished(finding: Finding, dress: Dress) -> str:
-    """That no violation was found, but blocks are open; and if there are several, that they may hide one."""
-    counts = finding.counts
+    """That no violation was found, but blocks are open; and if there are several, that they may hide one. Also why the log was cut."""
+    counts, why = finding.counts, why_cut(finding)
+    cut = f"The log was cut, because {why}. The verdict is only on the lines before that. " if why else ""
     events, blocks = counted(counts["events"], "event"), counted(counts["blocks"], "block")
     have = "has" if counts["open"] == 1 else "have"
     hidden = " A cycle that goes back in time in two or more of them may be hidden." if counts["open"] > 1 else ""
-    return f"No violation was found in {events}, but {counts['open']:,} of {blocks} {have} no end{still_open(finding, dress)}.{hidden}"
+    return f"{cut}No violation was found in {events}, but {counts['open']:,} of {blocks} {have} no end{still_open(finding, dress)}.{hidden}"
 
 
 def still_open(finding: Finding, dress: Dress) -> str:

@@ -176,12 +176,12 @@ public final class Options {
     /** Whether there may be blocks. */
     public static boolean hasBlocks() { return !blocks.equals("none"); }
 
-    /** Whether the method, as a.b.C.m, is a block. One that the compiler made is none unless it is asked for. */
-    public static boolean isBlock(String label, boolean isSynthetic, boolean isAnnotated) {
+    /** Whether the method, as a.b.C.m, is a block. One that isn't meant to be one (the compiler made it) is none unless it is asked for. */
+    public static boolean isBlock(String label, boolean isMeant, boolean isAnnotated) {
         if (blocks.equals("all")) return true;
         if (blocks.equals("none")) return false;
         if (!blocks.startsWith("-")) return isListed(blocks, label, isAnnotated);
-        return !isListed(blocks.substring(1), label, isAnnotated) && !isSynthetic;
+        return !isListed(blocks.substring(1), label, isAnnotated) && isMeant;
     }
     /** A name is a method's, or a label, or the begin of labels with a `*` behind it, or the word for annotated methods. */
     private static boolean isListed(String names, String label, boolean isAnnotated) {

@@ -13,7 +13,7 @@ import org.junit.jupiter.api.extension.ExtensionContext;
 
 /**
  * Has the agent write a log of each test method, and the checker judge it. The method fails if a block isn't atomic, if its log has
- * no block, or if its log can't be written or judged. The method itself is no block.
+ * no block or ends early, or if its log can't be written or judged. The method itself is no block.
  *
  * The bootstrap loader, which loads the agent, mustn't find this class, because it doesn't find JUnit: see java/build.
  */
@@ -22,6 +22,7 @@ public final class AtomicityExtension implements BeforeTestExecutionCallback, Af
     private static final String PARALLEL = "junit.jupiter.execution.parallel.enabled", PROGRAM = "aerodrome.program";
     private static final String ISOLATED = "org.junit.jupiter.api.parallel.Isolated";
     private static final int MOST_LABEL = 255;
+    private static final String CUT = "no violation, but the log ends early, as a line on standard error says: the rest isn't checked";
 
     @Override public void beforeTestExecution(ExtensionContext context) {
         if (!hasAgent())
@@ -50,6 +51,7 @@ public final class AtomicityExtension implements BeforeTestExecutionCallback, Af
             // A test that fails by itself, or that an assumption aborts, may end before its first block.
             boolean hasRun = context.getExecutionException().isEmpty();
             if (verdict.isViolation || verdict.isOfNothing && hasRun) throw new AssertionError(verdict.text);
+            if (!TestLog.isWhole()) throw new AssertionError(CUT);
             if (!verdict.text.isEmpty()) say(context, verdict.text);
         } catch (IOException cannot) {
             throw new ExtensionConfigurationException(log + " isn't judged: " + cannot.getMessage());

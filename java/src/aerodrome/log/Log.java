@@ -32,7 +32,9 @@ public final class Log {
     private static final int SPINS = 50;
     /** In nanoseconds: how long a thread waits for the lock while no line is written; the most that one look at the clock adds. */
     private static final long MOST_WAIT = 10_000_000_000L, MOST_STEP = 10_000_000L;
-    private static final byte[] BUFFER = new byte[1 << 20];
+    /** How many bytes of lines are written at once, behind which there is room for a mark. */
+    private static final int PART = 1 << 20;
+    private static final byte[] BUFFER = new byte[PART + Sink.MOST_MARK];
     private static int used;
     private static long written, limit;
     /** Null between tests. */
@@ -62,18 +64,20 @@ public final class Log {
         unlock();
     }
 
-    /** Writes the log of a test out and closes it, if the program hasn't ended meanwhile. */
-    static void endTest() throws IOException {
+    /** Writes the log of a test out and closes it, if the program hasn't ended meanwhile. Returns whether it is whole. */
+    static boolean endTest() throws IOException {
         lock();
         Sink ended = finished ? null : sink;
         if (on) flush();
+        boolean isWhole = on && !isCut;
         test = 0;
         sink = finished ? sink : null;
         unlock();
-        if (ended == null) return;
+        if (ended == null) return isWhole;
         // The extension says of a log that it has no block.
-        if (written == 0) ended.unmark();
+        if (isWhole) ended.unmark();
         ended.close();
+        return isWhole;
     }
 
     // ---- the lock
@@ -112,7 +116,7 @@ public final class Log {
         if (isGivenUp || holder != on) return;
         isGivenUp = true;
         flush();
-        if (Log.on) stop("thread " + on.getName() + " waits within an access");
+        if (Log.on) stop("lock", "thread " + on.getName() + " waits within an access");
         isStuck = true;
     }
 
@@ -160,12 +164,12 @@ public final class Log {
     /** Writes the line; the lock is held. */
     public static void append(Line line) {
         if (!takes(line)) return;
-        if (limit > 0 && written + used + line.length > limit) {
+        if (limit > 0 && written + used + line.length + Sink.MOST_MARK > limit) {
             flush();
-            if (takes(line)) stop("limit is reached");
+            if (takes(line)) stop("limit", "AERODROME_LIMIT is reached");
             return;
         }
-        if (used + line.length > BUFFER.length) flush();
+        if (used + line.length > PART) flush();
         if (!takes(line)) return;
         System.arraycopy(line.bytes, 0, BUFFER, used, line.length);
         used += line.length;
@@ -181,8 +185,7 @@ public final class Log {
             sink.write(BUFFER, used);
             written += used;
         } catch (IOException wrong) {
-            stop(Sink.why(wrong));
-            sink.cut(BUFFER, written);
+            stop("write", Sink.why(wrong));
         }
         used = 0;
         isFlushing = false;
@@ -200,7 +203,7 @@ public final class Log {
             for (String one : Options.blocksNotMet()) say(one);
         }
         // Not where the rest couldn't be written.
-        boolean isWhole = on;
+        boolean isWhole = on && !isCut;
         on = false;
         unlock();
         if (!isFirst) return;
@@ -214,8 +217,12 @@ public final class Log {
         }
         if (sink == null) return;
         try {
-            if (isEmpty) sink.drop();
-            else sink.close();
+            if (isEmpty) {
+                sink.drop();
+                return;
+            }
+            if (isWhole) sink.unmark();
+            sink.close();
         } catch (IOException wrong) {
             say(sink.target + ": " + Sink.why(wrong));
         }
@@ -245,19 +252,20 @@ public final class Log {
     }
 
     /** What was logged is written out, and nothing more is logged. */
-    static void end(String why) {
+    static void end(String cause, String why) {
         lock();
         if (on) {
             flush();
-            stop(why);
+            if (on) stop(cause, why);
         }
         unlock();
     }
 
-    /** The log of a test ends, or all logging. */
-    private static void stop(String why) {
+    /** The log of a test ends, or all logging. The log has the cause as a mark, behind what fits of the lines that aren't written. */
+    private static void stop(String cause, String why) {
         if (Options.isOfTests && !isGivenUp) isCut = true;
         else on = false;
+        if (sink != null) sink.cut(cause, BUFFER, used);
         say((sink == null ? Options.log : sink.target) + ": " + why + ": the rest isn't logged");
     }
 

@@ -12,8 +12,8 @@ public final class LoggedThread {
     private static final ThreadLocal<LoggedThread> MINE = new ThreadLocal<LoggedThread>() {
         @Override protected LoggedThread initialValue() { return of(Thread.currentThread()); }
     };
-    /** GROUPS: see group(); MOST: threads that the checker takes. */
-    private static final int GROUPS = 64, MOST = 65_536;
+    /** GROUPS: see group(); MOST: threads that the checker takes, less the one of the mark of a log that was cut. */
+    private static final int GROUPS = 64, MOST = 65_535;
 
     /** From 1; no two threads ever have the same. */
     public final int number = LAST.incrementAndGet();
@@ -42,7 +42,7 @@ public final class LoggedThread {
 
     private LoggedThread(Thread thread) {
         name = ThreadName.of(number, thread);
-        if (number > MOST && !Options.isOfTests) Log.end("more than " + MOST + " threads");
+        if (number > MOST && !Options.isOfTests) Log.end("threads", "more than " + MOST + " threads");
     }
 
     public static LoggedThread current() { return MINE.get(); }

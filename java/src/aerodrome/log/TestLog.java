@@ -33,7 +33,7 @@ public final class TestLog {
     private static final Map<Long, Integer> TASKS = new ConcurrentHashMap<>();
     /** The path of the log that is written now, or null. */
     private static String path;
-    private static boolean isShared;
+    private static boolean isShared, isWhole;
     /** Whether a test has asked for a log, even if it got none. */
     static volatile boolean isAsked;
 
@@ -87,11 +87,13 @@ public final class TestLog {
         while (!running.isEmpty() && System.nanoTime() - first < WAIT && pause()) running = running();
         synchronized (TestLog.class) {
             path = null;
-            Log.endTest();
+            isWhole = Log.endTest();
             if (isShared) throw new IOException("another test ran at the same time");
         }
         return running;
     }
+    /** Whether the log that ended last has all events of its test. */
+    public static synchronized boolean isWhole() { return isWhole; }
     /** Not where the thread is interrupted, which it stays. */
     private static boolean pause() {
         try {

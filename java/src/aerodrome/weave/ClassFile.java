@@ -34,6 +34,16 @@ public final class ClassFile {
 
     static int version(byte[] bytes) { return (bytes[VERSION + 2] & 255) << 8 | bytes[VERSION + 3] & 255; }
 
+    /** The class that another one extends, which isn't loaded, by the file that the loader has for it; null where that isn't known. */
+    static String above(ClassLoader loader, String name) {
+        String file = name + ".class";
+        try (InputStream bytes = loader == null ? ClassLoader.getSystemResourceAsStream(file) : loader.getResourceAsStream(file)) {
+            return bytes == null ? null : reader(bytes.readAllBytes()).getSuperName();
+        } catch (IOException | RuntimeException unreadable) {
+            return null;
+        }
+    }
+
     /** The version of the JDK's own class files where they can't be read, else 0. */
     public static int unreadable() throws IOException {
         byte[] bytes;

@@ -23,6 +23,8 @@ final class WovenClass extends ClassVisitor {
     private static final String NUMBERED = "aerodrome/names/Numbered";
     private static final String OBJECT = "Ljava/lang/Object;";
     private static final int MOST_SOURCE = 200;
+    private static final Set<String> FORKED = Set.of("java/util/concurrent/RecursiveTask", "java/util/concurrent/RecursiveAction",
+            "java/util/concurrent/CountedCompleter");
 
     private final WeakReference<ClassLoader> loader;
     private final Set<String> light;
@@ -129,6 +131,13 @@ final class WovenClass extends ClassVisitor {
     boolean isLight(String method, String descriptor) { return light.contains(method + descriptor); }
     boolean isCatching(String method, String descriptor) { return outline.catching.contains(method + descriptor); }
     boolean isAnnotated(String method, String descriptor) { return outline.annotated.contains(method + descriptor); }
+    /** Whether a fork-join pool runs the method, as other pools run `run` and `call`. */
+    boolean isForked(String method, String descriptor) {
+        if (!method.equals("compute") || !descriptor.startsWith("()")) return false;
+        String above = Fields.base(loader(), name);
+        while (above != null && !above.startsWith("java/")) above = ClassFile.above(loader(), above);
+        return above != null && FORKED.contains(above);
+    }
     int firstLine(String method, String descriptor) { return outline.lines.getOrDefault(method + descriptor, 0); }
 
     /** Whether methods may be added that have code. */

@@ -39,7 +39,8 @@ final class WovenMethod extends AdviceAdapter {
         line = of.firstLine(method, descriptor);
         label = of.name.replace('/', '.') + "." + method;
         isLight = of.isLight(method, descriptor);
-        isBlock = Options.isBlock(label, (access & ACC_SYNTHETIC) != 0, of.isAnnotated(method, descriptor));
+        boolean isMeant = (access & ACC_SYNTHETIC) == 0 && !of.isForked(method, descriptor);
+        isBlock = Options.isBlock(label, isMeant, of.isAnnotated(method, descriptor));
         isSynchronized = (access & ACC_SYNCHRONIZED) != 0;
         isStatic = (access & ACC_STATIC) != 0;
         isConstructor = method.equals("<init>");
