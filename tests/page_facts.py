@@ -9,6 +9,8 @@
 - Each file that a page names must exist, and so must each name that a page gives as a crate's: a path such as
   `aero_batch::run::run`; a name after the crate's, such as aero_intake `Live`; and each name in backquotes in a row of a table
   that begins with a crate's name. A page that counts the repository's crates, as "the 37 crates" or "all 37 crates", must count them right.
+- docs/definitions.md must link to each file of definitions that the headline needs before its part on the program, and count these
+  files and their lines. docs/proved.md must name each type with data that only contracts see, and each with a proof by hand.
 - The recipes of CONTRIBUTING.md for a new option and for a new fault of an event must name each file that contains the option
   --fail-open or the fault JoinSelf.
 - Some habits make sentences hard to read (HABITS, below). A page may have each habit at most as often as ALLOWED says, and a page
@@ -22,7 +24,9 @@ import subprocess
 
 from page_text import SCRIPTS, TOP, blocks_of, is_manual, plain, text_of
 
-MANUAL, GUIDE, README, DEFINITIONS = "docs/aerodrome.1", "docs/guide.md", "README.md", "docs/definitions.md"
+MANUAL, GUIDE, README = "docs/aerodrome.1", "docs/guide.md", "README.md"
+DEFINITIONS, PROVED = "docs/definitions.md", "docs/proved.md"
+HEADLINE = "crates/aero_telling/specs/Founds.antt"
 FAULT = re.compile(r"\b(?:[A-Z][a-z]+){2,}\b")
 
 
@@ -312,6 +316,52 @@ def link_all(pages, tally):
         tally.note(spec in read_aloud or spec.endswith("/Lib.antt"), f"{DEFINITIONS}: no link leads to {spec}")
 
 
+def needed_by(spec):
+    """A file of definitions with all that it uses, directly or by others."""
+    needed, open_ones = set(), [spec]
+    while open_ones:
+        it = open_ones.pop()
+        if it not in needed:
+            needed.add(it)
+            used = re.findall(r"(?m)^use Rattle\.(aero_\w+)\.specs\.([\w.]+?)(?=\.\{| as |$)", text_of(it))
+            paths = {f"crates/{crate}/specs/{name.replace('.', '/')}.antt" for crate, name in used if not name.startswith("declared.")}
+            open_ones += sorted(paths)
+    return needed
+
+
+def compare_headline(tally):
+    """The definitions of the headline are linked where the page reads it aloud, and counted."""
+    page = text_of(DEFINITIONS)
+    needed = needed_by(HEADLINE)
+    linked = re.findall(r"\]\(\.\./(crates/[^)#]+)\)", page.partition("\n## The program\n")[0])
+    tally.note(needed <= set(linked), f"{DEFINITIONS}: no link before the program", "\n".join(sorted(needed - set(linked))))
+    lines = sum(text_of(it).count("\n") for it in needed)
+    counted = f"{len(needed)} files of {lines:,} lines"
+    tally.note(counted in page, f"{DEFINITIONS}: the headline's definitions are {counted}")
+
+
+def by_crate(types):
+    """Types of crates as a page lists them."""
+    its = {}
+    for crate, name in sorted(types):
+        its.setdefault(crate, []).append(f"`{name}`")
+    return "; ".join(f"{crate} {', '.join(names)}" for crate, names in its.items()) + "."
+
+
+def compare_trusted(tally):
+    """The page on proofs names each type with data for contracts alone, and each with a proof by hand."""
+    page = " ".join(text_of(PROVED).split())
+    seen, proved = set(), set()
+    for path in glob.glob("crates/*/src/**/*.rt", root_dir=TOP, recursive=True):
+        for name, fields in re.findall(r"(?ms)^(?:pub(?:\(crate\))? )?(?:struct|enum) (\w+)([^;]*?(?:^\}|\);))", text_of(path)):
+            if re.search(r": Ghost\w+,|\bSnapshot<", re.sub(r"//.*", "", fields)):
+                seen.add((path.split("/")[1], name))
+    for path in glob.glob("crates/*/proofs/**/Proof.antt", root_dir=TOP, recursive=True):
+        proved.add((path.split("/")[1], path.split("/")[-3]))
+    for what, types in (("data that only contracts see", seen), ("proofs by hand", proved)):
+        tally.note(by_crate(types) in page, f"{PROVED}: it lists other types with {what} than", by_crate(types))
+
+
 def compare_pages(pages, program, tally):
     """Compares the pages with each other, with the program and the scripts, and with the files of the repository."""
     link_all(pages, tally)
@@ -320,3 +370,5 @@ def compare_pages(pages, program, tally):
     compare_graph(tally)
     compare_completions(tally)
     compare_recipes(tally)
+    compare_headline(tally)
+    compare_trusted(tally)

@@ -177,6 +177,7 @@ static const char *name_of(long number) {
 #ifdef SYS_fork
     if (number == SYS_fork) return "fork";
 #endif
+    if (number == SYS_pwrite64) return "pwrite64";
     return number == SYS_clone ? "fork" : number == SYS_ppoll ? "ppoll" : number == SYS_tgkill ? "tgkill" : "no call";
 }
 

@@ -2,17 +2,18 @@ import java.util.concurrent.ForkJoinPool;
 import java.util.concurrent.ForkJoinTask;
 import java.util.concurrent.RecursiveTask;
 
-// V: a task that forks another one and joins it waits in the midst of its block for what it has given away
+// V: a method that forks a task and joins it waits in the midst of its block for what it has given away
 public class ComputesByForks {
     static class Task extends RecursiveTask<Integer> {
         int left = 1;
-        @Override protected Integer compute() {
+        int both() {
             left++;
             ForkJoinTask<Integer> other = new Other(this).fork();
             // So another thread of the pool runs it.
             Turns.await("begun");
             return other.join() + left;
         }
+        @Override protected Integer compute() { return both(); }
     }
     static class Other extends RecursiveTask<Integer> {
         final Task of;

@@ -1,0 +1,116 @@
+"""Compiles, runs and compares programs in C and C++."""
+import os
+import random
+from concurrent.futures import ThreadPoolExecutor
+
+import compare
+import driver
+from c import names
+from c.program import CProgram
+from traces import Trace
+
+FLAGS = ["-O2", "-O0", "-O1", "-O3", "-Os", "-O2 -D_FORTIFY_SOURCE=2", "-O2 -flto", "-O2 -fPIC"]
+STANDARDS = {"c": ["17", "11"], "c++": ["17", "20", "11", "14", "20", "17"]}
+FEATURES = ("twice", "semaphore", "once", "barrier", "condition")
+COMPILERS = {"gcc": {"AERODROME_CC": "gcc", "AERODROME_CXX": "g++"}, "clang": {"AERODROME_CC": "clang", "AERODROME_CXX": "clang++"}}
+
+
+class Choice:
+    """How the program of a seed is compiled. What the options leave open is the seed's."""
+
+    def __init__(self, options, seed):
+        self.language, self.compiler = options.language, options.compiler
+        self.flags = (FLAGS[seed % len(FLAGS)] if options.flags is None else options.flags).split()
+        self.standard = options.std or STANDARDS[self.language][seed % len(STANDARDS[self.language])]
+        self.library = options.library or seed % 4 == 3
+        self.objects = (options.objects if options.objects is not None else (0, 5)[seed % 2]) if self.language == "c++" else 0
+        self.suffix = "cc" if self.language == "c++" else "c"
+        self.wrapper = os.path.join(options.tree, "bin", "aerodrome-c++" if self.language == "c++" else "aerodrome-cc")
+
+    def traits(self):
+        known = [self.language + one for one in ("11", "14", "17", "20") if int(one) <= int(self.standard)] if self.language == "c++" else []
+        return {self.language, self.compiler} | set(known) | ({"library"} if self.library else set())
+
+    def words(self):
+        return [self.wrapper] + self.flags + ["-std=gnu%s%s" % ("++" if self.language == "c++" else "", self.standard), "-w", "-I", driver.HERE + "/c"]
+
+
+def program_of(options, seed):
+    """Returns how a seed's program is compiled, its trace and the program."""
+    choice = Choice(options, seed)
+    source = random.Random("%s %d %d" % (options.language, seed, options.size))
+    # A thread that leaves by pthread_exit throws in C++.
+    features = FEATURES + (("exit",) if options.language == "c" else ())
+    trace = Trace(source, source.randint(10, 2 * options.size), features)
+    return choice, trace, CProgram(trace, source, choice.traits(), options.limits, choice.objects)
+
+
+def compiled(choice, program, folder, scheduler):
+    """Compiles a program and its library."""
+    text, library = program.text()
+    source = "%s/program.%s" % (folder, choice.suffix)
+    driver.write(source, text)
+    libraries = []
+    if library:
+        libraries = ["%s/library.so" % folder]
+        driver.write("%s/library.%s" % (folder, choice.suffix), library)
+        driver.built(choice.words() + ["-fPIC", "-shared", "%s/library.%s" % (folder, choice.suffix), "-o", libraries[0]], COMPILERS[choice.compiler])
+    driver.built(choice.words() + [source, scheduler] + libraries + ["-o", folder + "/program", "-lm", "-latomic", "-pthread"], COMPILERS[choice.compiler])
+
+
+def run_once(folder, marked):
+    """Runs a program under the logger, and returns the differences if it fails."""
+    name = "marked" if marked else "plain"
+    settings = {"AERODROME_LOG": "%s/%s.log" % (folder, name), "AERODROME_BLOCKS": "-aside_*", "STAGE_TABLE": "%s/%s.table" % (folder, name)}
+    if marked:
+        settings["STAGE_MARKS"] = "1"
+    status, _, said = driver.call([folder + "/program"], settings)
+    if status or said:
+        return [compare.Difference("failure", None, name + " run", "status 0", "status %d %s" % (status, said[:500]))]
+    return []
+
+
+def differences_of(options, seed, folder, scheduler):
+    """Makes, compiles and runs the program of a seed, and returns the differences of its log from the trace."""
+    choice, trace, program = program_of(options, seed)
+    folder = driver.fresh(folder)
+    driver.write(folder + "/trace.std", "".join(line + "\n" for _, line in program.lines()))
+    compiled(choice, program, folder, scheduler)
+    failures = run_once(folder, True) + run_once(folder, False)
+    if failures:
+        return failures
+    symbols = names.symbols_of(folder + "/program", program.left_out("a static local called like its function"))
+    marked, plain = [names.Names(program, "%s/%s.table" % (folder, name), symbols) for name in ("marked", "plain")]
+    lines = list(compare.lines_of(folder + "/marked.log"))
+    comparison = compare.Comparison(trace, program, compare.windows_of(lines, marked.step_of_mark), marked)
+    found = comparison.run()
+    found += driver.compare_verdicts(options.checker, folder + "/trace.std", folder + "/marked.log", program, comparison)
+    return found or same_without_marks(program, lines, list(compare.lines_of(folder + "/plain.log")), marked, plain)
+
+
+def same_without_marks(program, lines, others, marked, plain):
+    """Returns how a log without marks differs from the one with marks, in the order of the events of all things that last."""
+    marked.lasting()
+    plain.lasting()
+    group = program.groups[0]
+    if any(step.meeting for step in program.trace.steps) or any(step.at_exit for step in program.trace.steps):
+        # What happens at once may come in another order.
+        key = lambda events: sorted(events, key=str)
+    else:
+        key = list
+    one, other = key(compare.projection(lines, marked, group)), key(compare.projection(others, plain, group))
+    if one == other:
+        return []
+    at = next((at for at in range(min(len(one), len(other))) if one[at] != other[at]), min(len(one), len(other)))
+    return [compare.Difference("another log without marks", None, "event %d" % at, one[at:at + 2], other[at:at + 2])]
+
+
+def run(options, seeds):
+    """Yields the seeds, with the folder and the differences of each."""
+    os.makedirs(options.folder, exist_ok=True)
+    scheduler = os.path.join(options.folder, "scheduler-%s.o" % options.language)
+    driver.built(["gcc", "-O1", "-fPIC", "-c", driver.HERE + "/c/scheduler.c", "-o", scheduler])
+    folders = {seed: os.path.join(options.folder, "%s-%d" % ("cxx" if options.language == "c++" else "c", seed)) for seed in seeds}
+    with ThreadPoolExecutor(options.jobs) as pool:
+        for seed, found in zip(seeds, pool.map(lambda seed: differences_of(options, seed, folders[seed], scheduler), seeds)):
+            yield seed, folders[seed], found
