@@ -40,7 +40,7 @@ class Program:
 
     def __init__(self, trace, random, traits, limits=False):
         self.trace, self.random, self.traits, self.limits = trace, random, set(traits), limits
-        self.groups, self.names_used = [], 0
+        self.groups, self.names_used, self.grouped_meetings = [], 0, {}
         self.owners = self.holders()
         self.block_of = self.blocks()
         self.leaving = {}
@@ -139,3 +139,84 @@ class Program:
         if not release or step.meeting or release.meeting or self.block_of[step.number] != self.block_of[release.number]:
             return False
         return not scopes or scopes[-1] > release.number
+
+
+class Body:
+    """The text of a thread's function: `lines` are those of its innermost open block.
+
+    A language sets its modules `blocks`, `locks`, `threads` and `variables`, and says how it writes a step (`turn`, `done` and `at_turn`),
+    an acquire, a release, an end and a meeting. Each `add_` adds a step, maybe with the one behind it, and returns how many were added.
+    """
+
+    blocks = locks = threads = variables = None
+
+    def __init__(self, program, thread):
+        self.program, self.thread = program, thread
+        self.lines, self.stack = [], []
+        self.steps = program.steps_of(thread)
+        at = 0
+        while at < len(self.steps):
+            at += self.add(at)
+
+    def group(self, steps, how):
+        self.program.groups.append(Group(steps, how))
+
+    def add(self, at):
+        step, near = self.steps[at], self.program.next_if_near(self.steps, at)
+        if step.meeting:
+            return self.add_meeting(step)
+        if step.operation == "begin":
+            return self.add_begin(step)
+        if step.operation == "end":
+            return self.add_end(step)
+        if step.operation in ("r", "w"):
+            return self.add_access(step, near)
+        if step.operation in ("acq", "racq"):
+            return self.add_acquire(step)
+        if step.operation in ("rel", "rrel"):
+            return self.add_release(step, near)
+        return self.add_steps([step], *self.other(step))
+
+    def other(self, step):
+        """Returns the name and the text of a step on a thread or on a thing that is no variable and no lock, or of one without events."""
+        program = self.program
+        if step.operation == "fork":
+            return self.threads.fork(program, step)
+        if step.operation == "join":
+            return self.threads.join(program, step)
+        if step.operation == "nop":
+            return (self.locks.fail(program, step) if program.chance(0.7) else None) or program.choose(self.threads.NOTHING, ())
+        it = program.others[step.target]
+        return program.choose(it.kind.operations[step.operation], (), dict(it.words, item=step.number))
+
+    def add_steps(self, steps, how, text):
+        """Adds steps that one text does."""
+        self.group(steps, how)
+        self.lines.append(self.at_turn(steps[0].number, text, steps[-1].number))
+        return len(steps)
+
+    def add_begin(self, step):
+        kind = self.blocks.choose_kind(self.program, step)
+        self.stack.append((step, kind, self.lines))
+        self.lines = [self.done(step.number)]
+        self.group([step], "a block that is " + kind.name)
+        return 1
+
+    def add_access(self, step, near):
+        program, it = self.program, self.program.variables[step.target]
+        done = None
+        if near and step.operation == "r" and near.operation == "w" and near.target == step.target and program.chance(0.7):
+            done = self.variables.change(program, it)
+        how, text = done or (self.variables.read if step.operation == "r" else self.variables.write)(program, it)
+        return self.add_steps([step, near] if done else [step], "%s, x being %s in %s" % (how, it.type, it.place.name), text)
+
+    def add_meeting(self, step):
+        """Adds what this thread does in a meeting. The first of its threads makes the group."""
+        program, meeting = self.program, step.meeting
+        parts = program.grouped_meetings.get(id(meeting))
+        if not parts:
+            how, parts = self.meet(meeting)
+            program.grouped_meetings[id(meeting)] = parts
+            self.group(meeting.steps, how)
+        self.lines.append(parts[self.thread])
+        return len([one for one in meeting.steps if one.thread == self.thread])

@@ -2,7 +2,7 @@
 import string
 
 from c import accesses, blocks, locks, threads, variables
-from program import Group, Program
+from program import Body, Program
 from traces import event_of, line_of
 
 HEADERS = ["pthread.h", "semaphore.h", "setjmp.h", "stdlib.h", "string.h", "strings.h", "threads.h", "time.h", "sched.h", "stdarg.h", "sys/mman.h",
@@ -50,9 +50,8 @@ class CProgram(Program):
         self.common = blocks.choose_common(self)
         self.plan_ends(threads.ENDS_IN_CXX if "c++" in self.traits else threads.ENDS)
         self.events = events_of(trace, self)
-        self.grouped_meetings = {}
         everyone = {1} | {step.thread for step in trace.steps} | set(self.starts)
-        self.tops = {thread: Body(self, thread).lines for thread in sorted(everyone)}
+        self.tops = {thread: CBody(self, thread).lines for thread in sorted(everyone)}
 
     def declare(self, text, words):
         self.globals.append(string.Template(text).substitute(words))
@@ -161,92 +160,56 @@ class Semaphore:
         return read
 
 
-class Body:
-    """The text of a thread's function: `lines` are those of the innermost open block."""
+class CBody(Body):
+    """The text of a thread's function. `scopes` has the releases that the open scopes of the innermost open block end with."""
+
+    blocks, locks, threads = blocks, locks, threads
 
     def __init__(self, program, thread):
-        self.program, self.thread = program, thread
-        self.lines, self.scopes, self.stack, self.in_library = [], [], [], False
-        self.steps = program.steps_of(thread)
-        at = 0
-        while at < len(self.steps):
-            at += self.add(at)
+        self.scopes, self.outer_scopes, self.in_library = [], [], False
+        super().__init__(program, thread)
 
-    def group(self, steps, how):
-        self.program.groups.append(Group(steps, how))
+    def done(self, number):
+        return "stage_done(%d);" % number
 
-    def turn(self, steps, text):
-        """Adds a text that is executed at the turn of these steps."""
-        self.lines.append("stage_turn(%d); %s stage_done(%d);" % (steps[0].number, text, steps[-1].number))
+    def at_turn(self, first, text, last):
+        return "stage_turn(%d); %s stage_done(%d);" % (first, text, last)
 
-    def add(self, at):
-        """Adds a step, and returns how many were done."""
-        step, near = self.steps[at], self.program.next_if_near(self.steps, at)
-        if step.meeting:
-            return self.add_meeting(step)
-        if step.operation == "begin":
-            return self.add_begin(step)
-        if step.operation == "end":
-            return self.add_end(step)
-        if step.operation in ("r", "w"):
-            return self.add_access(step, near)
-        if step.operation in ("acq", "racq"):
-            how, text, is_scope = locks.take(self.program, step, self.scopes)
-            if is_scope:
-                self.scopes.append(step.partner.number)
-            return self.add_simple(step, how, text)
-        if step.operation in ("rel", "rrel"):
-            return self.add_release(step, near)
-        return self.add_simple(step, *self.other(step))
-
-    def other(self, step):
-        program = self.program
-        if step.operation == "fork":
-            return threads.fork(program, step)
-        if step.operation == "join":
-            return threads.join(program, step)
-        if step.operation == "nop":
-            return (locks.fail(program, step) if program.chance(0.7) else None) or program.choose(threads.NOTHING, ())
-        it = program.others[step.target]
-        return program.choose(it.kind.operations[step.operation], (), it.words)
-
-    def add_simple(self, step, how, text):
-        self.group([step], how)
-        self.turn([step], text)
-        return 1
+    def add_acquire(self, step):
+        how, text, is_scope = locks.take(self.program, step, self.scopes)
+        if is_scope:
+            self.scopes.append(step.partner.number)
+        return self.add_steps([step], how, text)
 
     def add_release(self, step, near):
         if self.scopes and self.scopes[-1] == step.number:
             self.scopes.pop()
-            return self.add_simple(step, "the end of a scope", "}")
+            return self.add_steps([step], "the end of a scope", "}")
         once = len(self.program.owners[step.number][step.target]) == 1 and step.target not in self.program.trace.shared
         waits = near and near.operation == "acq" and near.target == step.target and once
         done = locks.wait(self.program, step.target) if waits else None
-        if not done:
-            return self.add_simple(step, *locks.release(self.program, step))
-        self.group([step, near], done[0])
-        self.turn([step, near], done[1])
-        return 2
+        if done:
+            return self.add_steps([step, near], *done)
+        return self.add_steps([step], *locks.release(self.program, step))
 
     def add_begin(self, step):
-        kind = blocks.choose_kind(self.program, step)
-        self.stack.append((step, kind, self.lines, self.scopes))
-        self.lines, self.scopes = ["stage_done(%d);" % step.number], []
-        self.in_library = kind.name == "a function of a library"
-        self.group([step], "a block that is " + kind.name)
-        return 1
+        added = super().add_begin(step)
+        self.outer_scopes.append(self.scopes)
+        self.scopes = []
+        self.in_library = self.stack[-1][1].name == "a function of a library"
+        return added
 
     def add_end(self, step):
         mode, numbers = self.program.leaving[step.number]
         first, last = step.number == numbers[0], step.number == numbers[-1]
-        begin, kind, before, scopes = self.stack.pop()
+        begin, kind, before = self.stack.pop()
         if first and mode == "exit":
             self.lines.append("stage_turn(%d); stage_done(%d); pthread_exit(0);" % (numbers[0], numbers[-1]))
         elif first:
             leave = {"throw": "throw 7;", "longjmp": "longjmp(jumps[%d], 1);" % numbers[-1]}.get(mode, "")
             self.lines.append("stage_turn(%d); %s" % (step.number, leave))
         call = blocks.define(self.program, begin, kind, self.lines)
-        self.lines, self.scopes, self.in_library = before, scopes, False
+        self.lines, self.scopes, self.in_library = before, self.outer_scopes.pop(), False
         self.lines.append("stage_turn(%d);" % begin.number)
         if mode == "tail" and not last and call.startswith("("):
             self.lines.append("return %s;" % call)
@@ -255,7 +218,7 @@ class Body:
         else:
             self.lines.append(call + ";")
         if last and mode != "exit":
-            self.lines.append("stage_done(%d);" % step.number)
+            self.lines.append(self.done(step.number))
         return 1
 
     def access(self, step, near):
@@ -286,21 +249,10 @@ class Body:
             gone = program.variables[one.target]
             if gone.is_late() and gone.last is one:
                 text += " { void *p = stage_at(%d); stage_remove(%d); %s(p); }" % (gone.number, gone.number, gone.free)
-        self.group(steps, "%s, x being %s in %s" % (how, it.type.name, it.place.name))
-        self.turn(steps, text)
-        return len(steps)
+        return self.add_steps(steps, "%s, x being %s in %s" % (how, it.type.name, it.place.name), text)
 
-    def add_meeting(self, step):
-        """Adds what this thread does in a meeting. The first of its threads makes the group."""
-        program, meeting = self.program, step.meeting
-        parts = program.grouped_meetings.get(id(meeting))
-        if not parts:
-            how, parts = meeting_of(program, meeting)
-            program.grouped_meetings[id(meeting)] = parts
-            self.group(meeting.steps, how)
-        mine = [one for one in meeting.steps if one.thread == self.thread]
-        self.lines.append(parts[self.thread])
-        return len(mine)
+    def meet(self, meeting):
+        return meeting_of(self.program, meeting)
 
 
 def meeting_of(program, meeting):

@@ -1,6 +1,6 @@
 """From traces, one program in Go that executes one of them, by its number."""
 from go import blocks, locks, variables
-from program import Group, Program
+from program import Body, Program
 from traces import event_of, line_of
 
 ENDS = [("return", 2), ("panic", 1), ("tail", 1)]
@@ -17,7 +17,7 @@ class GoProgram(Program):
         super().__init__(trace, random, {"go"}, limits)
         self.prefix, self.has_quiet_moments = "t%d" % number, random.random() < 0.5
         self.globals, self.start, self.functions = [], [], []
-        self.labels, self.grouped_meetings = {}, {}
+        self.labels = {}
         self.variables = {name: variables.make_variable(self, at, name) for at, name in enumerate(trace.variables)}
         self.locks = {name: locks.make_lock(self, at, name) for at, name in enumerate(trace.locks)}
         self.others = {name: locks.make_other(self, kind, at, name)
@@ -27,7 +27,7 @@ class GoProgram(Program):
         self.all_events = Events(self).all()
         self.events = {number: [one for one in events if not self.is_left_out(one[1])] for number, events in self.all_events.items()}
         everyone = {1} | {step.thread for step in trace.steps} | set(self.joins)
-        self.tops = {thread: Body(self, thread).lines for thread in sorted(everyone)}
+        self.tops = {thread: GoBody(self, thread).lines for thread in sorted(everyone)}
 
     def is_left_out(self, name):
         """Returns whether the log may lack the events of a name, because of a quiet moment."""
@@ -97,57 +97,22 @@ class Events:
         return [] if step.operation == "nop" else [event_of(step, self.program.trace.shared)]
 
 
-class Body:
-    """The text of a goroutine's function: `lines` are those of the innermost open block."""
+class GoBody(Body):
+    """The text of a goroutine's function."""
 
-    def __init__(self, program, thread):
-        self.program, self.thread = program, thread
-        self.lines, self.stack = [], []
-        self.steps = program.steps_of(thread)
-        at = 0
-        while at < len(self.steps):
-            at += self.add(at)
+    blocks, locks, threads, variables = blocks, locks, locks, variables
 
-    def group(self, steps, how):
-        self.program.groups.append(Group(steps, how))
+    def done(self, number):
+        return "done(%d)" % number
 
-    def add_all(self, steps, how, text):
-        """Adds steps that one text does, and returns how many they are."""
-        self.group(steps, how)
-        self.lines.append("turn(%d); %s; done(%d)" % (steps[0].number, text, steps[-1].number))
-        return len(steps)
+    def at_turn(self, first, text, last):
+        return "turn(%d); %s; done(%d)" % (first, text, last)
 
-    def add(self, at):
-        """Adds a step, and returns how many were done."""
-        program, step, near = self.program, self.steps[at], self.program.next_if_near(self.steps, at)
-        if step.meeting:
-            return self.add_meeting(step)
-        if step.operation == "begin":
-            kind = blocks.choose_kind(program, step)
-            self.stack.append((step, kind, self.lines))
-            self.lines = ["done(%d)" % step.number]
-            self.group([step], "a block that is " + kind.name)
-            return 1
-        if step.operation == "end":
-            return self.add_end(step)
-        if step.operation in ("r", "w"):
-            return self.add_access(step, near)
-        if step.operation in ("acq", "racq"):
-            return self.add_all([step], *locks.take_or_release(program, step, locks.TAKES))
-        if step.operation in ("rel", "rrel"):
-            return self.add_all([step], *locks.take_or_release(program, step, locks.RELEASES))
-        return self.add_all([step], *self.other(step))
+    def add_acquire(self, step):
+        return self.add_steps([step], *locks.take_or_release(self.program, step, locks.TAKES))
 
-    def other(self, step):
-        program = self.program
-        if step.operation == "fork":
-            return locks.fork(program, step)
-        if step.operation == "join":
-            return locks.join(program, step)
-        if step.operation == "nop":
-            return (locks.fail(program, step) if program.chance(0.7) else None) or program.choose(locks.NOTHING, ())
-        it = program.others[step.target]
-        return program.choose(it.kind.operations[step.operation], (), it.words)
+    def add_release(self, step, near):
+        return self.add_steps([step], *locks.take_or_release(self.program, step, locks.RELEASES))
 
     def add_end(self, step):
         mode, numbers = self.program.leaving[step.number]
@@ -169,24 +134,8 @@ class Body:
             self.lines.append("done(%d)" % step.number)
         return 1
 
-    def add_access(self, step, near):
-        program, it = self.program, self.program.variables[step.target]
-        done = None
-        if near and step.operation == "r" and near.operation == "w" and near.target == step.target and program.chance(0.7):
-            done = variables.change(program, it)
-        how, text = done or (variables.read if step.operation == "r" else variables.write)(program, it)
-        return self.add_all([step, near] if done else [step], "%s, x being %s in %s" % (how, it.type, it.place.name), text)
-
-    def add_meeting(self, step):
-        """Adds what this goroutine does in a meeting. The first of its goroutines makes the group."""
-        program, meeting = self.program, step.meeting
-        parts = program.grouped_meetings.get(id(meeting))
-        if not parts:
-            how, parts = MEETINGS[meeting.kind](program, meeting)
-            program.grouped_meetings[id(meeting)] = parts
-            self.group(meeting.steps, how)
-        self.lines.append(parts[self.thread])
-        return len([one for one in meeting.steps if one.thread == self.thread])
+    def meet(self, meeting):
+        return MEETINGS[meeting.kind](self.program, meeting)
 
 
 def message_of(program, meeting):

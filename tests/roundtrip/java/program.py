@@ -2,7 +2,7 @@
 import string
 
 from java import blocks, locks, threads, variables
-from program import Group, Program
+from program import Body, Program
 from traces import event_of, line_of
 
 IMPORTS = ["java.lang.invoke.*", "java.util.*", "java.util.concurrent.*", "java.util.concurrent.atomic.*", "java.util.concurrent.locks.*"]
@@ -18,7 +18,7 @@ class JavaProgram(Program):
         super().__init__(trace, random, {"java"}, limits)
         self.name = name
         self.fields, self.beside, self.start, self.methods = [], [], [], []
-        self.labels, self.common_bodies, self.grouped_meetings = {}, {}, {}
+        self.labels, self.common_bodies = {}, {}
         self.first_permits = {name: 1 if first == "take" else 0 for name, first in first_operations(trace).items()}
         self.waits = self.choose_waits()
         self.variables = {one: variables.make_variable(self, at, one) for at, one in enumerate(trace.variables)}
@@ -31,7 +31,7 @@ class JavaProgram(Program):
         self.plan_ends(ENDS)
         self.events, self.items = Events(self).all(), {}
         everyone = {1} | {step.thread for step in trace.steps} | set(self.starts)
-        self.tops = {thread: Body(self, thread).lines for thread in sorted(everyone)}
+        self.tops = {thread: JavaBody(self, thread).lines for thread in sorted(everyone)}
 
     def choose_waits(self):
         """Returns some pairs of a release and an acquire behind it that are one wait, by the number of the release."""
@@ -135,62 +135,27 @@ class Events:
         return [("r", "%s.all%d" % (step.target, thread)) for thread in sorted({one.thread for one in step.meeting.steps}) if thread != step.thread]
 
 
-class Body:
-    """The text of a thread's method: `lines` are those of the innermost open block."""
+class JavaBody(Body):
+    """The text of a thread's method."""
 
-    def __init__(self, program, thread):
-        self.program, self.thread = program, thread
-        self.lines, self.stack = [], []
-        self.steps = program.steps_of(thread)
-        at = 0
-        while at < len(self.steps):
-            at += self.add(at)
-
-    def group(self, steps, how):
-        self.program.groups.append(Group(steps, how))
+    blocks, locks, threads, variables = blocks, locks, threads, variables
 
     def turn(self, number):
         return "Stage.turn(%d); if (Stage.marks) Mark.step(%d);" % (number, number)
 
-    def add_all(self, steps, how, text):
-        """Adds steps that one text does, and returns how many they are."""
-        self.group(steps, how)
-        self.lines.append("%s %s Stage.done(%d);" % (self.turn(steps[0].number), text, steps[-1].number))
-        return len(steps)
+    def done(self, number):
+        return "Stage.done(%d);" % number
 
-    def add(self, at):
-        """Adds a step, and returns how many were done."""
-        program, step, near = self.program, self.steps[at], self.program.next_if_near(self.steps, at)
-        if step.meeting:
-            return self.add_meeting(step)
-        if step.operation == "begin":
-            kind = blocks.choose_kind(program, step)
-            self.stack.append((step, kind, self.lines))
-            self.lines = ["Stage.done(%d);" % step.number]
-            self.group([step], "a block that is " + kind.name)
-            return 1
-        if step.operation == "end":
-            return self.add_end(step)
-        if step.operation in ("r", "w"):
-            return self.add_access(step, near)
-        if step.operation in ("acq", "racq"):
-            return self.add_all([step], *locks.take(program, step))
-        if step.operation in ("rel", "rrel"):
-            if step.number in program.waits:
-                return self.add_all([step, program.waits[step.number]], *locks.wait(program, step.target))
-            return self.add_all([step], *locks.release(program, step))
-        return self.add_all([step], *self.other(step))
+    def at_turn(self, first, text, last):
+        return "%s %s %s" % (self.turn(first), text, self.done(last))
 
-    def other(self, step):
-        program = self.program
-        if step.operation == "fork":
-            return threads.fork(program, step)
-        if step.operation == "join":
-            return threads.join(program, step)
-        if step.operation == "nop":
-            return (locks.fail(program, step) if program.chance(0.7) else None) or program.choose(threads.NOTHING, ())
-        it = program.others[step.target]
-        return program.choose(it.kind.operations[step.operation], (), dict(it.words, item=step.number))
+    def add_acquire(self, step):
+        return self.add_steps([step], *locks.take(self.program, step))
+
+    def add_release(self, step, near):
+        if step.number in self.program.waits:
+            return self.add_steps([step, self.program.waits[step.number]], *locks.wait(self.program, step.target))
+        return self.add_steps([step], *locks.release(self.program, step))
 
     def add_end(self, step):
         mode, numbers = self.program.leaving[step.number]
@@ -208,27 +173,11 @@ class Body:
         else:
             self.lines.append(call + ";")
         if last:
-            self.lines.append("Stage.done(%d);" % step.number)
+            self.lines.append(self.done(step.number))
         return 1
 
-    def add_access(self, step, near):
-        program, it = self.program, self.program.variables[step.target]
-        done = None
-        if near and step.operation == "r" and near.operation == "w" and near.target == step.target and program.chance(0.7):
-            done = variables.change(program, it)
-        how, text = done or (variables.read if step.operation == "r" else variables.write)(program, it)
-        return self.add_all([step, near] if done else [step], "%s, x being %s in %s" % (how, it.type, it.place.name), text)
-
-    def add_meeting(self, step):
-        """Adds what this thread does in a meeting. The first of its threads makes the group."""
-        program, meeting = self.program, step.meeting
-        parts = program.grouped_meetings.get(id(meeting))
-        if not parts:
-            how, parts = MEETINGS[meeting.kind](program, meeting, self.turn)
-            program.grouped_meetings[id(meeting)] = parts
-            self.group(meeting.steps, how)
-        self.lines.append(parts[self.thread])
-        return len([one for one in meeting.steps if one.thread == self.thread])
+    def meet(self, meeting):
+        return MEETINGS[meeting.kind](self.program, meeting, self.turn)
 
 
 def barrier_of(program, meeting, turn):
