@@ -9,7 +9,7 @@
  * An atomic operation is one on X.a. If X is accessed both ways, each access counts as one of the other kind too, from its first one of
  * the other kind on: else a look without and a change with sync/atomic wouldn't conflict.
  *
- * With AERODROME_GRAIN all accesses to so many bytes are to one variable. */
+ * With AERODROME_GRAIN all accesses to so many bytes are to one variable, atomic operations too. */
 #include "log.h"
 
 /* Beside a bit for each part: the eight bytes were accessed as a whole; the first part, or the fifth one, by an atomic operation. */
@@ -37,14 +37,6 @@ static uint16_t atomic_at(word at) { return at & 7 ? (at & 7) == 4 ? ATOMIC_UPPE
 
 static void by_atomic(struct goroutine *t, const char *operation, word at, const struct code *place) {
     aero_suffixed(t, operation, at, &(struct suffix){".a", -1, place});
-}
-
-void aero_atomic_access(struct goroutine *t, const char *operation, word at, const struct code *place) {
-    uint16_t *parts = aero_parts(at);
-    by_atomic(t, operation, at, place);
-    if (!parts) return;
-    *parts |= atomic_at(at);
-    if (*parts >> (at & 7) & 1) aero_event(t, operation, at, place);
 }
 
 static void whole(struct goroutine *t, const char *operation, word at, const struct code *place) {
@@ -105,6 +97,18 @@ static void grains(struct goroutine *t, const char *operation, word at, word byt
 }
 
 /* ---- the hooks */
+
+void aero_atomic_access(struct goroutine *t, const char *operation, word at, const struct code *place) {
+    if (aero_settings.grain) {
+        aero_event(t, operation, start_of(at), place);
+        return;
+    }
+    uint16_t *parts = aero_parts(at);
+    by_atomic(t, operation, at, place);
+    if (!parts) return;
+    *parts |= atomic_at(at);
+    if (*parts >> (at & 7) & 1) aero_event(t, operation, at, place);
+}
 
 /* AERODROME_LOCAL=skip: whether only this goroutine has touched the object so far. */
 static bool is_local(const struct goroutine *t, word at) {
