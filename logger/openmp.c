@@ -3,11 +3,11 @@
  *   critical, atomic by a lock, omp_set_lock and the like    acq(X), rel(X)
  *   a team of threads (parallel)    w(omp.TEAM) before it, r(omp.TEAM) by each of its threads; w(done.TEAM) at the end of each,
  *                                   r(done.TEAM) behind it
- *   a barrier, the end of for and of sections    w(bar.TEAM) before it, r(bar.TEAM) after it
+ *   a barrier, the end of for and of sections, copyprivate    w(bar.TEAM) before it, r(bar.TEAM) after it
  *   a task                          w(task.K) where it is made and where it ends, r(task.K) where it begins; taskwait reads
  *                                   those of the tasks that were made since
  *
- * The order by taskloop, depend, taskgroup's inner tasks, ordered, and by a barrier that waits for tasks isn't logged. */
+ * The order by taskloop, depend, taskgroup's inner tasks, reduction(task), ordered, and by a barrier that waits for tasks isn't logged. */
 #include "log.h"
 
 #include <stdbool.h>
@@ -93,17 +93,47 @@ PARALLEL(GOMP_parallel_loop_runtime, LOOP, LOOP, unsigned flags)
 PARALLEL(GOMP_parallel_loop_nonmonotonic_runtime, LOOP, LOOP, unsigned flags)
 PARALLEL(GOMP_parallel_loop_maybe_nonmonotonic_runtime, LOOP, LOOP, unsigned flags)
 
+static void barrier(const char *operation, uintptr_t code) {
+    if (mine) aero_event(operation, "bar.", (uintptr_t)mine, code);
+}
 #define BARRIER(name) \
     EXPORT void name(void) { \
         REAL(void, name, void) \
-        struct team *team = mine; \
-        if (team) aero_event("w", "bar.", (uintptr_t)team, HERE); \
+        barrier("w", HERE); \
         real(); \
-        if (team) aero_event("r", "bar.", (uintptr_t)team, HERE); \
+        barrier("r", HERE); \
     }
 BARRIER(GOMP_barrier)
 BARRIER(GOMP_loop_end)
 BARRIER(GOMP_sections_end)
+
+/* Who is cancelled there hasn't waited for the others. */
+#define BARRIER_OR_CANCELLED(name) \
+    EXPORT bool name(void) { \
+        REAL(bool, name, void) \
+        barrier("w", HERE); \
+        bool is_cancelled = real(); \
+        if (!is_cancelled) barrier("r", HERE); \
+        return is_cancelled; \
+    }
+BARRIER_OR_CANCELLED(GOMP_barrier_cancel)
+BARRIER_OR_CANCELLED(GOMP_loop_end_cancel)
+BARRIER_OR_CANCELLED(GOMP_sections_end_cancel)
+
+/* copyprivate: one thread, which gets NULL, runs the block. Then all meet, and the others get what it hands to them. */
+EXPORT void *GOMP_single_copy_start(void) {
+    REAL(void *, GOMP_single_copy_start, void)
+    barrier("w", HERE);
+    void *given = real();
+    if (given) barrier("r", HERE);
+    return given;
+}
+EXPORT void GOMP_single_copy_end(void *given) {
+    REAL(void, GOMP_single_copy_end, void *)
+    barrier("w", HERE);
+    real(given);
+    barrier("r", HERE);
+}
 
 /* ---- locks */
 

@@ -5,6 +5,8 @@
  *   openmp tries      a lock that the others find taken, and one that is taken twice
  *   openmp barrier    each writes a place of its own, and behind a barrier reads that of the next one, in a block each
  *   openmp ends       a loop and sections within a team, which each end with a barrier
+ *   openmp cancels    the same as barrier, but where OMP_CANCELLATION is true the first thread keeps the others from coming behind it
+ *   openmp handed     one reads a place and hands it to the others, and each adds it
  *   openmp tasks      a sum by tasks that wait for tasks of their own, and a task that an event ends, which isn't logged
  *   openmp groups     tasks that are waited for one after the other, the last one by its group
  *   openmp copies     a task with copies of a list, which changes meanwhile, and of a structure that lies at a multiple of 64
@@ -87,6 +89,32 @@ static void barrier(void) {
 #pragma omp barrier
         if (read_next(own) == 0) puts("not written yet");
     }
+}
+
+static void cancels(void) {
+#pragma omp parallel num_threads(TEAM)
+    {
+        int own = omp_get_thread_num();
+        write_own(own);
+#pragma omp cancel parallel if (!own)
+#pragma omp barrier
+        if (read_next(own) == 0) puts("not written yet");
+    }
+}
+static void add_given(long given) {
+#pragma omp critical
+    total += given;
+}
+static void handed(void) {
+    long given;
+    places[0] = 3;
+#pragma omp parallel num_threads(TEAM) private(given)
+    {
+#pragma omp single copyprivate(given)
+        given = places[0];
+        add_given(given);
+    }
+    printf("%ld\n", total);
 }
 
 static void ends(void) {
@@ -217,6 +245,8 @@ int main(int words, char **word) {
     if (!strcmp(what, "locks")) locks();
     if (!strcmp(what, "barrier")) barrier();
     if (!strcmp(what, "ends")) ends();
+    if (!strcmp(what, "cancels")) cancels();
+    if (!strcmp(what, "handed")) handed();
     if (!strcmp(what, "tasks")) tasks();
     if (!strcmp(what, "groups")) groups();
     if (!strcmp(what, "copies")) copies();
