@@ -103,7 +103,7 @@ def settle(words: list[bytes]) -> Asked:
 
 
 def set_value(asked: Asked, name: bytes, value: Optional[bytes]) -> None:
-    if value is None:
+    if value is None or (name in FILES and not value):
         raise Ended(3, f"{name.decode()} needs a value")
     if name in LISTS:
         getattr(asked, LISTS[name]).append(value)

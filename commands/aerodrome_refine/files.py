@@ -14,6 +14,9 @@ from .names import shown
 
 def is_read_by_name(word: bytes) -> bool:
     """Whether the program can read the same bytes again by this name, or reports why it can't."""
+    # (such a name stands for another file in another process)
+    if os.path.abspath(word).startswith((b"/dev/stdin", b"/dev/fd/", b"/proc/")):
+        return False
     return os.path.isfile(word) or os.path.isdir(word) or not os.path.exists(word)
 
 

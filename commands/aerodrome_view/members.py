@@ -25,6 +25,8 @@ def word(of: Json, key: str) -> str:
     value = of.get(key)
     if not isinstance(value, str):
         raise ValueError(f"no text {key}")
+    # (half of a surrogate pair is no text)
+    value.encode()
     return value
 
 

@@ -2,9 +2,10 @@
 #
 #   aerodrome_test(TARGET [BLOCKS PATTERN..] [SPLIT WHERE..] [STIR NUMBER] [MAY_CHECK_NOTHING])
 #
-# Each CTest test that runs the program TARGET is then logged and judged, also the tests that gtest_discover_tests finds. If a block in
-# the log isn't atomic, the test fails, and prints the label of the block and its two places in the code. TARGET has to be compiled by
-# aerodrome-cc or aerodrome-c++. BLOCKS, SPLIT and STIR are the logger's settings AERODROME_BLOCKS, AERODROME_SPLIT and AERODROME_STIR.
+# Each CTest test whose COMMAND begins with the name TARGET is then logged and judged, also the tests that gtest_discover_tests finds. (One
+# that runs the program by a path, or by $<TARGET_FILE:TARGET>, isn't, since CMake doesn't know it then.) If a block in the log isn't
+# atomic, the test fails, and prints the label of the block and its two places in the code. TARGET has to be compiled by aerodrome-cc or
+# aerodrome-c++. BLOCKS, SPLIT and STIR are the logger's settings AERODROME_BLOCKS, AERODROME_SPLIT and AERODROME_STIR.
 # A test that leaves no log, or begins no block, fails too, since nothing was checked. With MAY_CHECK_NOTHING it may begin no block.
 # Call it before gtest_discover_tests, which notes how the tests are to be run.
 get_filename_component(_aerodrome_prefix "${CMAKE_CURRENT_LIST_DIR}/../../.." ABSOLUTE)
