@@ -31,12 +31,22 @@ static bool is_qualifier(const char *word) {
     return false;
 }
 
+static bool is_of_word(char byte) { return isalnum((unsigned char)byte) || byte == '_'; }
+
+/* Where the word `operator` stands, or NULL. */
+static char *operator_in(char *text) {
+    const size_t length = strlen("operator");
+    for (char *at = text; (at = strstr(at, "operator")); at += length)
+        if ((at == text || !is_of_word(at[-1])) && !is_of_word(at[length])) return at;
+    return NULL;
+}
+
 /* Where the name begins behind the type that a template returns: a blank outside brackets stands before it. An operator's name
  * may have blanks itself. */
 static char *behind_type(char *text) {
     int depth = 0;
     bool is_behind = false;                  /* the parameters of a function, whose qualifiers may follow */
-    char *from = text, *stop = strstr(text, "operator");
+    char *from = text, *stop = operator_in(text);
     for (char *byte = text; *byte && byte != stop; byte++) {
         depth += (*byte == '<' || *byte == '(' || *byte == '{') - (*byte == '>' || *byte == ')' || *byte == '}');
         if (!depth && *byte == ' ' && !(is_behind && is_qualifier(byte + 1))) from = byte + 1;
@@ -213,6 +223,15 @@ static void take_modules(char *text) {
     *to = 0;
 }
 
+/* Of name[abi:cxx11], as the C++ library has it for what returns a string, the name stays. */
+static void take_versions(char *text) {
+    for (char *from; (from = strstr(text, "[abi:"));) {
+        char *end = strchr(from, ']');
+        if (!end) return;
+        memmove(from, end + 1, strlen(end + 1) + 1);
+    }
+}
+
 /* A suffix of the compiler or of a version, as in pay.constprop.0 and environ@GLIBC, goes. The parts of a coroutine, as in
  * _Z4loopPZ4loopvE13_Z4loopv.Frame.actor, have it in the midst of their names too. */
 static char *readable_cpp(const char *symbol, bool is_function) {
@@ -227,6 +246,7 @@ static char *readable_cpp(const char *symbol, bool is_function) {
     if (!readable) return plain;
     free(plain);
     take_modules(readable);
+    take_versions(readable);
     if (is_function && !is_path) cut_parameters(readable);
     return readable;
 }

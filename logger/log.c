@@ -24,7 +24,8 @@
  *
  * X is the name of a global variable of the program or a library, with +N for the N-th byte in it, and @ADDRESS where others have
  * that name; else an address. parts.c says which bytes are one variable.
- * Memory that is allocated again is a new variable, ADDRESS.N. Threads are T1 (main), T2, ..; no number is used again.
+ * Memory that is allocated again is a new variable, ADDRESS.N, also where a global variable was, NAME.N. Threads are T1 (main), T2, ..;
+ * no number is used again.
  *
  * The place in the code is `program+0x1234`, and the tool aerodrome-places puts FILE:LINE there afterwards. So the program
  * doesn't wait for addr2line, no such process runs beside it, and only the lines that somebody reads are looked up. The place of

@@ -2,12 +2,14 @@
 #include "log.h"
 #include "words.h"
 
+#include <dlfcn.h>
 #include <elf.h>
 #include <link.h>
 #include <signal.h>
 #include <stdio.h>
 #include <stdlib.h>
 #include <string.h>
+#include <sys/stat.h>
 #include <unistd.h>
 
 /* The program, which is the first one, or a library that was loaded. */
@@ -16,6 +18,7 @@ struct object {
     uintptr_t head;          /* where the first bytes of its file lie; 0: nowhere */
     const char *name;        /* of its file, without folders; at most MOST_FILE bytes */
     char *path;
+    struct stat file;        /* what the path led to then */
     struct table functions;  /* those of code that has hooks */
     const char **labels;     /* theirs; NULL: not made yet */
     bool is_read;            /* they were looked for */
@@ -119,8 +122,30 @@ static int look_into(struct dl_phdr_info *info, size_t size, void *data) {
     return 0;
 }
 
+/* From version 2.35 on, the C library can say which object has an address without a lock. dl_iterate_phdr takes that of the loader, which
+ * another thread may have that waits for the lock of the names. */
+#ifdef DLFO_STRUCT_HAS_EH_DBASE
+static int (*find_object)(void *, struct dl_find_object *);
+static void find_finder(void) { *(void **)&find_object = dlsym(RTLD_DEFAULT, "_dl_find_object"); }
+static bool find(uintptr_t at, struct search *search, struct object *found) {
+    struct dl_find_object it;
+    if (!find_object || find_object((void *)at, &it)) return false;
+    uintptr_t low = (uintptr_t)it.dlfo_map_start;
+    *found = (struct object){.low = low, .high = (uintptr_t)it.dlfo_map_end, .bias = it.dlfo_link_map->l_addr, .head = low};
+    snprintf(search->path, sizeof search->path, "%s", it.dlfo_link_map->l_name);
+    return true;
+}
+#else
+static void find_finder(void) {}
+static bool find(uintptr_t at, struct search *search, struct object *found) {
+    (void)at, (void)search, (void)found;
+    return false;
+}
+#endif
+
 /* Whether some object has the address in memory now; `search` says which. */
 static bool is_in_memory(uintptr_t at, struct search *search, struct object *found) {
+    if (find(at, search, found)) return true;
     search->at = at;
     search->found = found;
     search->path[0] = 0;
@@ -131,6 +156,12 @@ static bool is_in_memory(uintptr_t at, struct search *search, struct object *fou
 static bool is_file_of(const struct object *object, struct image image) {
     const size_t bytes = sizeof(ElfW(Ehdr));
     return image.bytes && image.size >= bytes && object->head && !memcmp((const void *)object->head, image.bytes, bytes);
+}
+
+/* Whether the paths led to one file, that nobody has written to since. */
+static bool is_same_file(const struct stat *one, const struct stat *other) {
+    return one->st_dev == other->st_dev && one->st_ino == other->st_ino && one->st_mtim.tv_sec == other->st_mtim.tv_sec
+        && one->st_mtim.tv_nsec == other->st_mtim.tv_nsec;
 }
 
 /* The path of the file that is mapped at the address; an empty one where there is none. */
@@ -190,6 +221,7 @@ static struct object *object_at(uintptr_t at) {
     const char *kept = keep_text(name);
     now.name = kept ? kept : "";
     now.path = keep_text(path);
+    if (stat(path, &now.file)) now.file = (struct stat){0};
     *object = now;
     return object;
 }
@@ -215,7 +247,7 @@ static struct table read_object(struct object *object) {
     }
     if (image.bytes) image = aero_names_of(image, object->path);
     object->functions = aero_symbols(image, STT_FUNC, object->bias);
-    if (is_program(object) && !has_main(&object->functions)) aero_lacks_main(object->name);
+    if (is_program(object) && !has_main(&object->functions) && !aero_wants_main(image)) aero_lacks_main(object->name);
     return aero_symbols(image, STT_OBJECT, object->bias);
 }
 
@@ -334,6 +366,7 @@ static int know_object(struct dl_phdr_info *info, size_t size, void *unused) {
 }
 
 void aero_names_start(void) {
+    find_finder();
     aero_lock_names();
     object_at((uintptr_t)aero_names_start);
     dl_iterate_phdr(know_object, NULL);
@@ -355,9 +388,11 @@ static void forget_replaced(uintptr_t at) {
     static struct search search;
     struct object now;
     if (!is_in_memory(at, &search, &now)) return;
+    if (stat(search.path, &now.file)) now.file = (struct stat){0};
     for (int place = 0; place < object_count; place++) {
         struct object *it = &objects[place];
-        bool is_same = it->low == now.low && it->high == now.high && it->path && !strcmp(it->path, search.path);
+        bool is_same = it->low == now.low && it->high == now.high && it->path && !strcmp(it->path, search.path)
+            && is_same_file(&it->file, &now.file);
         if (is_same || is_program(it) || it->low >= now.high || it->high <= now.low) continue;
         for (size_t slot = 0; slot < (size_t)1 << CODE_BITS; slot++) {
             struct code *code = atomic_load(&codes[slot]);
@@ -531,7 +566,8 @@ char *aero_put_variable(char *to, uintptr_t address) {
         to = aero_put_text(to, it->name);
         if (address != it->at) *to++ = '+', to = put_number(to, address - it->at);
         if (it->several) *to++ = '@', to = aero_put_hex(to, it->at);
-        if (UNLIKELY(it->again)) *to++ = '.', to = put_number(to, aero_generation(address) + 1);
+        uint32_t renewed = aero_generation(address);
+        if (UNLIKELY(renewed || it->again)) *to++ = '.', to = put_number(to, renewed + 1);
         return to;
     }
     to = aero_put_hex(aero_put_text(to, "0x"), address);

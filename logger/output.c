@@ -13,6 +13,7 @@
  * regular end ends its block. */
 #include "log.h"
 
+#include <fcntl.h>
 #include <poll.h>
 #include <signal.h>
 #include <stdio.h>
@@ -196,11 +197,28 @@ static void give_up(int why) {
     if (!is_ended) aero_say(target, "its last lines can't be replaced by the mark of a log that was cut");
 }
 
+/* A child of vfork() has the log of its parent, and may have closed all files of its own. Returns the number to write to meanwhile. */
+static int borrow_log(void) {
+    char path[64];
+    int own = aero_log.number;
+    if (aero_is_kept(&aero_log) || getpid() == aero_owner) return own;
+    snprintf(path, sizeof path, "/proc/%d/fd/%d", (int)aero_owner, own);
+    int file = open(path, O_WRONLY | O_CLOEXEC);
+    if (file >= 0) aero_log.number = file;
+    return own;
+}
+static void give_log_back(int own) {
+    if (aero_log.number == own || aero_log.number < 0) return;
+    close(aero_log.number);
+    aero_log.number = own;
+}
+
 void aero_flush(void) {
     struct masks masks;
     size_t bytes = lines_that_fit();
     if (!bytes || aero_log.number < 0) return;
     mask_signals(&masks);
+    int own = borrow_log();
     bool is_out = way == PLACED ? place_lines(bytes) : send_buffer(bytes, &masks.waiting);
     if (is_out) {
         aero_written += bytes;
@@ -208,6 +226,7 @@ void aero_flush(void) {
         aero_used -= bytes;
         sent = 0;
     } else give_up(errno);
+    give_log_back(own);
     unmask_signals(&masks, !is_out);
 }
 

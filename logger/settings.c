@@ -31,10 +31,16 @@ static bool is_split(const char *text) {
     return aero_settings.splits_waits || aero_settings.splits_threads;
 }
 
+/* A program may write over its environment, as one does that shows what it is doing in the list of processes. */
+static const char *kept(const char *text) {
+    char *copy = text ? aero_pages(strlen(text) + 1) : NULL;
+    return copy ? strcpy(copy, text) : text;
+}
+
 bool aero_read_settings(const char *target) {
     struct settings *it = &aero_settings;
-    *it = (struct settings){.target = target, .fresh = 1, .places = 1, .stir = -1, .limit = -1};
-    it->blocks = text_of("AERODROME_BLOCKS");
+    *it = (struct settings){.target = kept(target), .fresh = 1, .places = 1, .stir = -1, .limit = -1};
+    it->blocks = kept(text_of("AERODROME_BLOCKS"));
     const char *split = text_of("AERODROME_SPLIT"), *limit = text_of("AERODROME_LIMIT"),
                *stir = text_of("AERODROME_STIR");
     if (!strcmp(target, "|")) return refuses("AERODROME_LOG", target, "a command behind |");

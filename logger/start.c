@@ -14,6 +14,8 @@ void aero_start(void) {
     static atomic_int started;
     if (atomic_exchange(&started, 1)) return;
     const char *said = secure_getenv("AERODROME_LOG");
+    if (!said && getenv("AERODROME_LOG"))
+        aero_say("AERODROME_LOG", "the program has other rights than who has started it: nothing is logged");
     if (!said || !*said || !aero_read_settings(said)) return;
     aero_number(aero_next_number());
     aero_grain = aero_settings.grain;

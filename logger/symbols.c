@@ -12,9 +12,12 @@
 #include <sys/stat.h>
 #include <unistd.h>
 
+/* Of several names of one address that comes first which people use: `pay` before `__pay`. */
 static int by_address(const void *one, const void *other) {
     const struct symbol *a = one, *b = other;
     if (a->at != b->at) return a->at < b->at ? -1 : 1;
+    size_t in_front = strspn(a->name, "_"), in_other = strspn(b->name, "_");
+    if (in_front != in_other) return in_front < in_other ? -1 : 1;
     return strcmp(a->name, b->name);
 }
 
@@ -129,6 +132,17 @@ static bool is_no_hook(const ElfW(Sym) *it, const char *name, void *with) {
 bool aero_wants_hooks(struct image image) {
     const ElfW(Shdr) *section = section_of(image, SHT_DYNSYM);
     return section && !all_of(image, section, is_no_hook, NULL);
+}
+
+static bool is_no_main(const ElfW(Sym) *it, const char *name, void *with) {
+    (void)with;
+    return it->st_shndx != SHN_UNDEF || strcmp(name, "main") != 0;
+}
+
+/* The program's main may be one of a library, as that of gtest_main. */
+bool aero_wants_main(struct image image) {
+    const ElfW(Shdr) *section = section_of(image, SHT_SYMTAB);
+    return section && !all_of(image, section, is_no_main, NULL);
 }
 
 /* ---- names that stand in a file of their own, from which strip has taken them out */

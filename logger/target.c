@@ -61,7 +61,7 @@ static void close_both(int why) {
 /* What the command is to have: the environment but for AERODROME_LOG. */
 static char **without_the_log(void) {
     size_t count = 0, kept = 0;
-    while (environ[count]) count++;
+    while (environ && environ[count]) count++;
     char **rest = aero_pages((count + 1) * sizeof *rest);
     for (size_t place = 0; rest && place < count; place++)
         if (strncmp(environ[place], "AERODROME_LOG=", 14)) rest[kept++] = environ[place];

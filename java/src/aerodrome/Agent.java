@@ -23,9 +23,17 @@ import java.util.Set;
  * says. What instrumented code calls stands in `hooks`. It writes lines by `log`, with the names that `names` gives.
  */
 public final class Agent {
+    /** A JVM may name the agent twice, as in JAVA_TOOL_OPTIONS and on its command line. */
+    private static boolean isStarted;
+
     private Agent() { }
 
     public static void premain(String string, Instrumentation with) {
+        if (isStarted) {
+            Log.say("the agent is loaded twice: only the first one logs");
+            return;
+        }
+        isStarted = true;
         String wrong = Options.read(string, System.getenv());
         if (wrong != null) {
             Log.say(wrong + ": nothing is logged");

@@ -6,6 +6,9 @@ import aerodrome.log.LoggedThread;
 import aerodrome.names.FieldName;
 import aerodrome.names.Numbers;
 import java.lang.invoke.VarHandle;
+import java.lang.reflect.Field;
+import java.lang.reflect.Modifier;
+import java.nio.ByteBuffer;
 import java.util.ArrayList;
 import java.util.List;
 
@@ -63,10 +66,11 @@ public final class Handles {
 
     static boolean isHandle(Object receiver) { return receiver instanceof VarHandle; }
 
-    /** The element of an array, or what else a handle of no known field accesses. */
+    /** The element of an array or a buffer, or what else a handle of no known field accesses. */
     static void putElement(Line line, Object object, long index) {
         Events.putObject(line, object);
         if (object.getClass().isArray()) Accesses.putIndex(line, index);
+        else if (object instanceof ByteBuffer) line.put('[').put(index).put(']');
     }
 
     // ---- names
@@ -74,6 +78,15 @@ public final class Handles {
     /** What was made as an updater or a handle of a field has the field's name. */
     public static Object named(Object made, Class<?> of, String field, boolean isStatic) {
         if (made != null && Log.on) Numbers.tie(made, new FieldName(of, field, isStatic));
+        return made;
+    }
+    public static Object named(Object made, Field field) {
+        return named(made, field.getDeclaringClass(), field.getName(), Modifier.isStatic(field.getModifiers()));
+    }
+    /** What was made of another handle is one of the same field. */
+    public static Object named(Object made, Object of) {
+        Object field = made != null && Log.on ? Numbers.tied(of) : null;
+        if (field instanceof FieldName) Numbers.tie(made, field);
         return made;
     }
 }

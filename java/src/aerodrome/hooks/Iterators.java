@@ -5,6 +5,8 @@ import java.lang.invoke.MethodHandles;
 import java.lang.invoke.VarHandle;
 import java.lang.ref.WeakReference;
 import java.lang.reflect.Field;
+import java.security.AccessController;
+import java.security.PrivilegedAction;
 import java.util.Collection;
 import java.util.HashSet;
 import java.util.Map;
@@ -33,7 +35,12 @@ public final class Iterators {
         Outer(VarHandle field) { this.field = field; }
     }
     private static final ClassValue<Outer> OUTER = new ClassValue<Outer>() {
+        // (a program with a SecurityManager may not look for fields)
+        @SuppressWarnings("removal")
         @Override protected Outer computeValue(Class<?> of) {
+            return AccessController.doPrivileged((PrivilegedAction<Outer>) () -> outer(of));
+        }
+        private Outer outer(Class<?> of) {
             for (Class<?> one = of; one != null && one.getName().startsWith("java.util."); one = one.getSuperclass())
                 try {
                     return new Outer(handle(one, "this$0"));

@@ -4,6 +4,8 @@ import aerodrome.log.Line;
 import aerodrome.names.FieldName;
 import java.lang.reflect.Field;
 import java.lang.reflect.Modifier;
+import java.security.AccessController;
+import java.security.PrivilegedAction;
 import java.util.HashMap;
 import java.util.Map;
 import sun.misc.Unsafe;
@@ -16,7 +18,12 @@ final class Offsets {
     private Offsets() { }
 
     private static final ClassValue<Map<Long, FieldName>> FIELDS = new ClassValue<Map<Long, FieldName>>() {
+        // (a program with a SecurityManager may not look for fields)
+        @SuppressWarnings("removal")
         @Override protected Map<Long, FieldName> computeValue(Class<?> of) {
+            return AccessController.doPrivileged((PrivilegedAction<Map<Long, FieldName>>) () -> fields(of));
+        }
+        private Map<Long, FieldName> fields(Class<?> of) {
             Map<Long, FieldName> fields = new HashMap<>();
             try {
                 Field known = Unsafe.class.getDeclaredField("theUnsafe");

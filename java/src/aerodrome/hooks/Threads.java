@@ -20,7 +20,7 @@ public final class Threads {
 
     public static void starts(Thread thread) {
         LoggedThread me = LoggedThread.logging();
-        if (me == null || thread.getState() != Thread.State.NEW || Numbers.tied(thread) != null) return;
+        if (me == null || thread.isAlive() || Numbers.tied(thread) != null) return;
         LoggedThread other = LoggedThread.of(thread);
         other.startedBy(me, thread);
         write(me, FORK, other);
@@ -42,7 +42,7 @@ public final class Threads {
         Events.acquire(me, thread, me.gaveBack, Site.NOWHERE);
         me.gaveBack = 0;
         LoggedThread other = (LoggedThread) Numbers.tied(thread);
-        if (other != null && other != me && thread.getState() == Thread.State.TERMINATED) write(me, JOIN, other);
+        if (other != null && other != me && !thread.isAlive()) write(me, JOIN, other);
     }
 
     /** The program has ended, and its own hooks for that too. */

@@ -269,11 +269,13 @@ public final class Log {
         say((sink == null ? Options.log : sink.target) + ": " + why + ": the rest isn't logged");
     }
 
-    /** Past System.err, which may be the program's own. */
+    /** Past System.err, which may be the program's own. It is made where the program has no say in what the agent may do. */
+    private static final FileOutputStream ERROR = new FileOutputStream(FileDescriptor.err);
+
     public static void say(String what) {
         byte[] text = ("aerodrome-agent: " + what + "\n").getBytes(StandardCharsets.UTF_8);
         try {
-            new FileOutputStream(FileDescriptor.err).write(text);
+            ERROR.write(text);
         } catch (IOException cannot) {
             // There is nobody else to tell.
         }

@@ -1,5 +1,6 @@
 package aerodrome.log;
 
+import java.io.File;
 import java.io.FileOutputStream;
 import java.io.IOException;
 import java.io.OutputStream;
@@ -8,7 +9,6 @@ import java.nio.channels.OverlappingFileLockException;
 import java.nio.charset.StandardCharsets;
 import java.nio.file.Files;
 import java.nio.file.Path;
-import java.nio.file.Paths;
 import java.nio.file.attribute.BasicFileAttributes;
 import java.util.regex.Matcher;
 import java.util.regex.Pattern;
@@ -66,18 +66,22 @@ public final class Sink {
         return new Sink(target, command.getOutputStream(), null, command);
     }
 
+    /** With -Duser.dir=DIR the classes of java.io and java.nio don't agree on what a relative path means. */
+    private static File absolute(String target) { return new File(target).getAbsoluteFile(); }
+
     /** A file that another process writes its log to stays as it is. So it is emptied only once it is locked. */
     private static Sink openFile(String target) throws IOException {
-        Path path = Paths.get(target);
+        File at = absolute(target);
+        Path path = at.toPath();
         if (Files.exists(path) && !Files.isRegularFile(path))
-            return new Sink(target, new FileOutputStream(target, true), null, null);
-        Sink made = new Sink(target, null, new RandomAccessFile(target, "rw"), null);
+            return new Sink(target, new FileOutputStream(at, true), null, null);
+        Sink made = new Sink(target, null, new RandomAccessFile(at, "rw"), null);
         if (!made.isLocked()) {
             made.file.close();
             throw new IOException("another process writes its log there, so use %p in the path");
         }
-        made.file.setLength(0);
         made.identity = identity(path);
+        made.file.setLength(0);
         made.markFirst();
         return made;
     }
@@ -115,7 +119,7 @@ public final class Sink {
         close();
     }
     private void delete() throws IOException {
-        Path path = Paths.get(target);
+        Path path = absolute(target).toPath();
         boolean isOurs = identity != null && Files.exists(path) && identity.equals(identity(path)) && !Files.isSymbolicLink(path);
         if (isOurs) Files.delete(path);
     }

@@ -21,17 +21,27 @@ final class Stubs {
     private final Map<String, Stub> byCall = new HashMap<>();
     private final List<Stub> all = new ArrayList<>();
 
-    /** A stub of a stub, for what refers to a method: it has no site. */
+    /**
+     * A stub of a stub, for what refers to a method: it has no site. If the reference has a receiver, as `set::containsAll` has, it is of
+     * that type exactly, also where a class above has the method.
+     */
     private static final class Reference {
         final Stub stub;
         final String name, descriptor;
         final int site;
 
-        Reference(Stub stub, String name, int site) {
+        Reference(Stub stub, String name, int site, String descriptor) {
             this.stub = stub;
             this.name = name;
             this.site = site;
-            descriptor = stub.descriptor.replace("I)", ")");
+            this.descriptor = descriptor;
+        }
+
+        /** @param receiver null: it has none */
+        static String descriptor(Stub stub, Type receiver) {
+            String plain = stub.descriptor.replace("I)", ")");
+            if (receiver == null) return plain;
+            return "(" + receiver.getDescriptor() + plain.substring(1 + Type.getArgumentTypes(plain)[0].getDescriptor().length());
         }
     }
     private final List<Reference> references = new ArrayList<>();
@@ -87,18 +97,19 @@ final class Stubs {
     }
 
     /** What a reference to the stub's method is led to, from the site, or null where the shape has nothing for it. */
-    Handle from(Stub stub, int site) {
-        Reference made = isFixed ? taken(stub, site) : new Reference(stub, Hidden.PREFIX + "from" + references.size(), site);
+    Handle from(Stub stub, int site, Type receiver) {
+        String descriptor = Reference.descriptor(stub, receiver), name = Hidden.PREFIX + "from" + references.size();
+        Reference made = isFixed ? taken(stub, site, descriptor) : new Reference(stub, name, site, descriptor);
         if (made == null) return null;
         references.add(made);
         return new Handle(H_INVOKESTATIC, of.name, made.name, made.descriptor, of.isInterface);
     }
 
-    private Reference taken(Stub stub, int site) {
+    private Reference taken(Stub stub, int site, String descriptor) {
         for (Reference one : free) {
-            if (one.stub != stub) continue;
+            if (one.stub != stub || !one.descriptor.equals(descriptor)) continue;
             free.remove(one);
-            return new Reference(stub, one.name, site);
+            return new Reference(stub, one.name, site, descriptor);
         }
         isShort = true;
         return null;

@@ -36,6 +36,8 @@ public final class Weaver implements ClassFileTransformer {
 
     @Override
     public byte[] transform(Module in, ClassLoader loader, String name, Class<?> redefined, ProtectionDomain domain, byte[] bytes) {
+        // The JDK's tools, as javac, are classes of the program's loader.
+        if (in != null && in.isNamed() && in.getName().matches("(java|jdk)[.].*")) return null;
         byte[] woven = transform(loader, name, redefined, domain, bytes);
         if (woven != null && in != null && !in.canRead(own))
             with.redefineModule(in, Set.of(own), Map.of(), Map.of(), Set.of(), Map.of());

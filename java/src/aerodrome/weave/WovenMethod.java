@@ -298,7 +298,8 @@ final class WovenMethod extends AdviceAdapter {
             Handle to = (Handle) arguments[1];
             int opcode = to.getTag() == H_INVOKEVIRTUAL ? INVOKEVIRTUAL : to.getTag() == H_INVOKEINTERFACE ? INVOKEINTERFACE : 0;
             Stub stub = opcode == 0 ? null : of.stubs.round(opcode, to.getOwner(), to.getName(), to.getDesc(), to.isInterface());
-            Handle from = stub == null ? null : of.stubs.from(stub, of.site(line));
+            Type[] taken = Type.getArgumentTypes(descriptor);
+            Handle from = stub == null ? null : of.stubs.from(stub, of.site(line), taken.length > 0 ? taken[0] : null);
             if (from != null) {
                 led = arguments.clone();
                 led[1] = from;
