@@ -45,6 +45,9 @@ public final class Threads {
         if (other != null && other != me && !thread.isAlive()) write(me, JOIN, other);
     }
 
-    /** The program has ended, and its own hooks for that too. */
-    public static void finish() { Log.finish(); }
+    /** The program has ended, and its own hooks for that too. The blocks end with it of the thread that has called System.exit. */
+    public static void finish() {
+        Blocks.leave(0, Site.NOWHERE);
+        Log.finish();
+    }
 }
