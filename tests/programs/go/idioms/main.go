@@ -814,7 +814,7 @@ func produceFour(to chan<- int64) {
 
 var newest = make(chan int64, 1)
 
-// Puts the newest value in the place of an older one.
+// Puts the newest value in the place of an older one. Another goroutine that puts too may come between the two.
 func offer() {
 	for {
 		select {
@@ -826,6 +826,13 @@ func offer() {
 		case <-newest:
 		default:
 		}
+	}
+}
+
+func takeNewest() {
+	select {
+	case <-newest:
+	default:
 	}
 }
 
@@ -941,7 +948,7 @@ var words = map[string]func(){
 	"cond-writer": waits(waitAsWriter, tellAsWriter), "cond-reader": waits(waitAsReader, tellAsWriter), "cond-own": waits(waitForOwn, tellOwn),
 	"mixed-splits": splits(plainLook, atomicChange), "panics-again-splits": splits(againLook, lockedChange),
 	"panics-in-deferred-splits": splits(inDeferredLook, lockedChange), "quits-in-deferred": quitsOften,
-	"iterates-torn": func() { both(iterate, changePair) }, "rest-of-closed": restOfClosed, "full-default": often(offer),
+	"iterates-torn": func() { both(iterate, changePair) }, "rest-of-closed": restOfClosed, "full-default": func() { oftenBoth(offer, takeNewest) },
 	"empty-unbuffered-follows": func() { both(sendsEmpty, receivesEmpty) },
 	"own-halves":               func() { both(lowTwice, highTwice) }, "timer-channel": timerChannel,
 	"mutex-of-channel": often(func() { keyed(func() { total++ }) }), "mutex-of-channel-splits": splits(keyLook, keyChange),
