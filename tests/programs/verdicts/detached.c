@@ -16,9 +16,14 @@ static int is_finished(void) {
     pthread_mutex_unlock(&lock);
     return none;
 }
+/* (of these main learns that the block of `finish` has ended) */
+static int gone;
+__attribute__((no_sanitize("thread"))) static void leave(void) { __atomic_fetch_add(&gone, 1, __ATOMIC_SEQ_CST); }
+__attribute__((no_sanitize("thread"))) static int all_left(void) { return __atomic_load_n(&gone, __ATOMIC_SEQ_CST) == 4; }
 static void *work(void *by_itself) {
     if (by_itself) pthread_detach(pthread_self());
     finish();
+    leave();
     return NULL;
 }
 int main(void) {
@@ -30,5 +35,6 @@ int main(void) {
         if (pthread_create(&thread, one % 2 ? &detached : NULL, work, one % 2 ? NULL : &left)) return 2;
     }
     while (!is_finished()) sched_yield();
+    while (!all_left()) sched_yield();
     return 0;
 }
