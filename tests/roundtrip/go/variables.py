@@ -45,6 +45,7 @@ WRITES = forms([
     ("m[k] =", '$x["a"] = some()', "map"), ("delete", 'delete($x, "b")', "map"),
     ("atomic.Store", "atomic.Store$T($p, 3)", "functions"), ("atomic.Add", "atomic.Add$T($p, 3)", "functions"), ("atomic.Swap", "atomic.Swap$T($p, 3)", "functions"),
     ("atomic.CompareAndSwap", "if !atomic.CompareAndSwap$T($p, $old, 5) { panic(1) }", "functions"),
+    ("= without sync/atomic", "{ p := $p; *p = $value }", "functions"),
     ("Store", "$x.Store($value)", "object"), ("Swap", "$x.Swap($value)", "object"), ("Add", "$x.Add(2)", "object added"),
     ("Store of a Value", "$x.Store(4)", "value"), ("Swap of a Value", "$x.Swap(5)", "value"),
 ])
@@ -57,6 +58,7 @@ READS = forms([
     ("m[k]", 'use($x["a"])', "map"), ("v, ok := m[k]", 'if v, ok := $x["a"]; ok { use(v) }', "map"), ("range of a map", "for k := range $x { use(k); break }", "map"),
     ("atomic.Load", "use(atomic.Load$T($p))", "functions"),
     ("atomic.CompareAndSwap, failed", "if atomic.CompareAndSwap$T($p, $old + 1, 5) { panic(1) }", "functions"),
+    ("*p without sync/atomic", "use(*$p)", "functions"),
     ("Load", "use($x.Load())", "object"), ("Load of a Value", "use($x.Load())", "value"),
 ])
 CHANGES = forms([("x++", "$x++", "plain counted|number"), ("x += 3", "$x += 3", "plain counted|number"), ("x = x + 1", "$x = $x + 1", "plain counted|number"),
