@@ -87,8 +87,10 @@ def fork(program, step):
     declared, start, end, _ = JOINS[kind]
     words = {"j": "%s_join%d" % (program.prefix, step.target)}
     add(program, declared, start, words)
-    return "go, joined by " + kind, "go func() {\n%s_body%d()\nended(%d)\n%s\n}()" % (
-        program.prefix, step.target, step.target, string.Template(end).substitute(words))
+    # (a function that is deferred runs behind runtime.Goexit too)
+    ends = "%s_defers%d()" % (program.prefix, step.target)
+    program.functions.append("func %s {\nended(%d)\n%s\n}" % (ends, step.target, string.Template(end).substitute(words)))
+    return "go, joined by " + kind, "go func() {\ndefer %s\n%s_body%d()\n}()" % (ends, program.prefix, step.target)
 
 
 def join(program, step):

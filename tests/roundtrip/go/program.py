@@ -117,7 +117,9 @@ class GoBody(Body):
     def add_end(self, step):
         mode, numbers = self.program.leaving[step.number]
         begin, kind, before = self.stack.pop()
-        if step.number == numbers[0]:
+        if step.number == numbers[0] and mode == "exit":
+            self.lines.append("turn(%d); done(%d); runtime.Goexit()" % (numbers[0], numbers[-1]))
+        elif step.number == numbers[0]:
             self.lines.append("turn(%d)" % step.number)
             if mode == "panic":
                 self.lines.append("if some() >= 0 { panic(left{}) }")
@@ -130,7 +132,7 @@ class GoBody(Body):
             self.program.functions.append("func %s() { defer asideCaught(); %s }" % (name, call))
             call = name + "()"
         self.lines.append(call)
-        if last:
+        if last and mode != "exit":
             self.lines.append("done(%d)" % step.number)
         return 1
 
