@@ -45,9 +45,12 @@ public final class Threads {
         if (other != null && other != me && !thread.isAlive()) write(me, JOIN, other);
     }
 
-    /** The program has ended, and its own hooks for that too. The blocks end with it of the thread that has called System.exit. */
+    /**
+     * The program has ended, and its own hooks for that too. The blocks end with it of the thread that has called System.exit. (A thread
+     * of the system's that has no number gets none.)
+     */
     public static void finish() {
-        Blocks.leave(0, Site.NOWHERE);
+        if (Numbers.tied(Thread.currentThread()) != null) Blocks.leave(0, Site.NOWHERE);
         Log.finish();
     }
 }
