@@ -105,6 +105,8 @@ def symbols_of(program, by_first_part):
         for line in said.splitlines():
             match = re.match(r"^([0-9a-f]{16}) [bBdDvVuRrsSgG] (.*)$", line)
             if match:
-                for name in {match[2], re.sub(r"\.\d+$", "", match[2]), match[2].rpartition(".")[2]} | {match[2].split(".")[0] for _ in range(by_first_part)}:
+                # (the log has the names of strings without the version of the C++ library)
+                whole = re.sub(r"\[abi:\w+\]", "", match[2])
+                for name in {whole, re.sub(r"\.\d+$", "", whole), whole.rpartition(".")[2]} | {whole.split(".")[0] for _ in range(by_first_part)}:
                     result.setdefault(name, set()).add(int(match[1], 16))
     return result
