@@ -8,7 +8,7 @@ from go.names import Names
 from go.program import GoProgram
 from traces import Trace
 
-FEATURES = ("once", "queue", "message", "condition", "exit")
+FEATURES = ("once", "queue", "message", "condition", "exit", "latch")
 HEAD = "package main\n\nimport (\n\t\"runtime\"\n\t\"sync\"\n\t\"sync/atomic\"\n\t\"unsafe\"\n)\n\nvar _ = runtime.Gosched\nvar _ sync.Mutex\n" \
     "var _ atomic.Int64\nvar _ unsafe.Pointer\n\n"
 

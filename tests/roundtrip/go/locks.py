@@ -1,4 +1,4 @@
-"""Locks of programs in Go, the ways to start and to join goroutines, and channels, Once and Cond."""
+"""Locks of programs in Go, the ways to start and to join goroutines, and channels, Once, Cond and WaitGroups for two."""
 import string
 from collections import namedtuple
 
@@ -29,6 +29,8 @@ JOINS = {"a WaitGroup": ("var $j sync.WaitGroup", "$j.Add(1)", "$j.Done()", "$j.
 Other = namedtuple("Other", "name type new operations")
 OTHERS = {
     "once": [Other("a Once", "sync.Once", "", {"once": forms([("Do", "$k.Do(func() { use(1) })")])})],
+    "latch": [Other("a WaitGroup for two", "sync.WaitGroup", "", {"down": forms([("Done", "$k.Done()"), ("Add of -1", "$k.Add(-1)")]),
+                                                                  "await": forms([("Wait", "$k.Wait()")])})],
     "queue": [Other("a channel with a buffer", "chan int64", "make(chan int64, 4)", {
         "put": forms([("send", "$k <- 3"), ("send in a select", "select { case $k <- 4: default: panic(1) }")]),
         "get": forms([("receive", "<-$k"), ("receive with ok", "if _, ok := <-$k; !ok { panic(1) }"), ("receive in a select", "select { case <-$k: default: panic(1) }")])})],
@@ -62,7 +64,7 @@ def make_other(program, kind, number, name):
     it = Thing(number, name)
     it.kind = program.random.choice(OTHERS[kind])
     it.words = {"k": "%s_%s" % (program.prefix, name)}
-    add(program, "var $k " + it.kind.type, "$k = " + it.kind.new if it.kind.new else "", it.words)
+    add(program, "var $k " + it.kind.type, "$k = " + it.kind.new if it.kind.new else "$k.Add(2)" if kind == "latch" else "", it.words)
     return it
 
 

@@ -5,7 +5,7 @@ MARK = re.compile(r"^main\.marks(?:\+(\d+))?$")
 #: Names of messages, of calls of Done and of goroutines' numbers that are used again.
 MESSAGE = re.compile(r"^(.*~\d*|go\.T\d+)$")
 #: Variables that programs have beside those of the trace, such as those that contain channels.
-BESIDE = re.compile(r"^main\.(t\d+_(join|queue|message|once|cond)\d+|held)$")
+BESIDE = re.compile(r"^main\.(t\d+_(join|queue|message|once|cond|latch)\d+|held)$")
 
 
 class Names:
@@ -71,7 +71,7 @@ class Names:
         if name in self.program.variables:
             return not MESSAGE.match(line.name) and not BESIDE.match(line.name)
         is_message = bool(MESSAGE.match(line.name))
-        return name not in self.bound and is_message == name.startswith(("queue", "message"))
+        return name not in self.bound and is_message == name.startswith(("queue", "message", "latch"))
 
     def may_read(self, variable):
         """Returns whether a write of the variable may read it too: one of a map reads the map."""

@@ -31,7 +31,7 @@ class GoProgram(Program):
 
     def is_left_out(self, name):
         """Returns whether the log may lack the events of a name, because of a quiet moment."""
-        return self.has_quiet_moments and name is not None and name.startswith(("ends.", "queue", "message"))
+        return self.has_quiet_moments and name is not None and name.startswith(("ends.", "queue", "message", "latch"))
 
     def no_blocks(self):
         """Returns the setting that makes blocks of the functions of the trace."""
@@ -69,7 +69,7 @@ class Events:
     """The operations and names of the events of each step, as docs/go-events.md has them."""
 
     def __init__(self, program):
-        self.program, self.puts, self.gets, self.done = program, {}, {}, set()
+        self.program, self.puts, self.gets, self.done, self.down = program, {}, {}, set(), {}
 
     def all(self):
         return {step.number: self.of(step) for step in self.program.trace.steps}
@@ -87,6 +87,11 @@ class Events:
             self.done.add(step.target)
             name = step.target
             return [("acq", name + ".mutex"), ("w", name), ("rel", name + ".mutex")] if first else [("r", name)]
+        if step.operation == "down":
+            self.down.setdefault(step.target, []).append(step.thread)
+            return [("w", "%s.%d" % (step.target, len(self.down[step.target])))]
+        if step.operation == "await":
+            return [("r", "%s.%d" % (step.target, at + 1)) for at, thread in enumerate(self.down[step.target]) if thread != step.thread]
         if step.operation == "put":
             return [("w", "%s.slot%d" % (step.target, (self.count(self.puts, step.target) - 1) % 4))]
         if step.operation == "get":
