@@ -35,16 +35,20 @@ static struct leaf *refused(void) {
     return NULL;
 }
 
-static struct leaf *leaf_of(uintptr_t address, bool make) {
-    if (address >> 47) return NULL;
-    _Atomic(struct leaf *) *slot = &leaves[address >> LEAF_BITS];
-    struct leaf *leaf = atomic_load_explicit(slot, memory_order_acquire);
-    if (leaf || !make) return leaf;
-    struct leaf *made = aero_pages(sizeof *made);
+static __attribute__((noinline)) struct leaf *new_leaf(_Atomic(struct leaf *) *slot) {
+    struct leaf *leaf = NULL, *made = aero_pages(sizeof *made);
     if (UNLIKELY(!made)) return refused();
     if (atomic_compare_exchange_strong(slot, &leaf, made)) return made;
     aero_free_pages(made, sizeof *made);
     return leaf;
+}
+
+/* (each access comes here) */
+static inline struct leaf *leaf_of(uintptr_t address, bool make) {
+    if (address >> 47) return NULL;
+    _Atomic(struct leaf *) *slot = &leaves[address >> LEAF_BITS];
+    struct leaf *leaf = atomic_load_explicit(slot, memory_order_acquire);
+    return LIKELY(leaf != NULL) || !make ? leaf : new_leaf(slot);
 }
 
 static uint32_t *unit_of(struct leaf *leaf, uintptr_t address) {
