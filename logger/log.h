@@ -316,7 +316,7 @@ void aero_drop_image(struct image image);
 struct table aero_symbols(struct image image, unsigned kind, uintptr_t bias);
 struct image aero_names_of(struct image image, const char *path);    /* that which has its names: a debug file's, or itself */
 bool aero_wants_hooks(struct image image);     /* whether code in the library calls the logger */
-bool aero_wants_main(struct image image);
+bool aero_wants_main(struct image image);      /* whether the program has main from a library */
 const struct symbol *aero_symbol_at(const struct table *table, uintptr_t address);
 void aero_sort_symbols(struct table *table);
 

@@ -18,7 +18,7 @@ struct object {
     uintptr_t head;          /* where the first bytes of its file lie; 0: nowhere */
     const char *name;        /* of its file, without folders; at most MOST_FILE bytes */
     char *path;
-    struct stat file;        /* what the path led to then */
+    struct stat file;        /* that of the path, when the object was met */
     struct table functions;  /* those of code that has hooks */
     const char **labels;     /* theirs; NULL: not made yet */
     bool is_read;            /* they were looked for */

@@ -8,9 +8,12 @@ import java.util.HashSet;
 import java.util.Iterator;
 import java.util.LinkedList;
 import java.util.List;
+import java.util.NavigableMap;
+import java.util.NavigableSet;
 import java.util.Set;
 import java.util.concurrent.ConcurrentHashMap;
 import java.util.concurrent.ConcurrentSkipListMap;
+import java.util.concurrent.ConcurrentSkipListSet;
 import java.util.concurrent.LinkedBlockingQueue;
 import java.util.function.Function;
 import java.util.function.Predicate;
@@ -62,6 +65,16 @@ public class Forms {
         ConcurrentSkipListMap<Integer, String> sorted = new ConcurrentSkipListMap<>();
         sorted.floorKey(1);
         sorted.pollFirstEntry();
+        NavigableMap<Integer, String> map = sorted;
+        map.floorKey(1);
+        map.pollFirstEntry();
+        map.descendingMap();
+        ConcurrentSkipListSet<String> names = new ConcurrentSkipListSet<>();
+        names.floor("a");
+        names.pollFirst();
+        NavigableSet<String> same = names;
+        same.subSet("a", "b");
+        same.pollLast();
     }
 
     public static void main(String[] words) throws Exception {

@@ -46,7 +46,7 @@ public final class Threads {
     }
 
     /**
-     * The program has ended, and its own hooks for that too. The blocks end with it of the thread that has called System.exit. (A thread
+     * The program has ended, and its own hooks for that too. The blocks of the thread that has called System.exit end with it. (A thread
      * of the system's that has no number gets none.)
      */
     public static void finish() {

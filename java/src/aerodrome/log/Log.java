@@ -269,7 +269,7 @@ public final class Log {
         say((sink == null ? Options.log : sink.target) + ": " + why + ": the rest isn't logged");
     }
 
-    /** Past System.err, which may be the program's own. It is made where the program has no say in what the agent may do. */
+    /** Past System.err, which may be the program's own. It is made at the start, as a SecurityManager may forbid it later. */
     private static final FileOutputStream ERROR = new FileOutputStream(FileDescriptor.err);
 
     public static void say(String what) {
