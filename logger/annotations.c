@@ -26,8 +26,13 @@ EXPORT void AnnotateRWLockAcquired(AT, const volatile void *lock, long is_writer
 EXPORT void AnnotateRWLockReleased(AT, const volatile void *lock, long is_writer UNUSED) {
     aero_releasing((uintptr_t)lock, HERE);
 }
+/* What was never allocated, such as a thread-local variable of main's, has a name that the first allocation there keeps. */
 EXPORT void AnnotateNewMemory(AT, const volatile void *at, long bytes) {
-    if (bytes > 0) aero_renew((uintptr_t)at, (uintptr_t)at + (uintptr_t)bytes);
+    const uintptr_t unit = 16, from = (uintptr_t)at, to = from + (uintptr_t)bytes;
+    if (bytes <= 0) return;
+    aero_renew(from, to);
+    for (uintptr_t one = from & -unit; one < to; one += unit)
+        if (aero_generation(one) == 1) aero_renew(one, one + unit);
 }
 
 /* ---- order */
