@@ -212,6 +212,24 @@ enum holding aero_releasing(uintptr_t lock, uintptr_t code) {
 /* Whether the lock is had, also where its owner has ended with it. */
 static bool is_had(int result) { return result == 0 || result == EOWNERDEAD; }
 
+/* Whether the log shows the mutex held by another thread. */
+static bool is_of_another(uintptr_t lock) {
+    const struct holder *it = holder_of(lock);
+    return it && it->owner != aero_me.number && it->owner != HANDED;
+}
+/* Gives the lock back by the C library's function. A mutex of another thread is given back while the log's lock is held: the C library
+ * may refuse that (EPERM), and then nothing has happened. */
+static int given_back(void *lock, uintptr_t code, int (*real)(void *)) {
+    if (aero_is_of_condition() || !aero_enter()) return real(lock);
+    aero_lock();
+    bool is_others = is_of_another((uintptr_t)lock);
+    int result = is_others ? real(lock) : 0;
+    if (!result) aero_release((uintptr_t)lock, code);
+    aero_unlock();
+    aero_leave();
+    return is_others ? result : real(lock);
+}
+
 #define ACQUIRE(name, how, arguments, ...) \
     EXPORT int name(__VA_ARGS__) { \
         REAL(int, name, __VA_ARGS__) \
@@ -222,9 +240,8 @@ static bool is_had(int result) { return result == 0 || result == EOWNERDEAD; }
     }
 #define RELEASE(name, type) \
     EXPORT int name(type *lock) { \
-        REAL(int, name, type *) \
-        aero_releasing((uintptr_t)lock, HERE); \
-        return real(lock); \
+        REAL(int, name, void *) \
+        return given_back((void *)lock, HERE, real); \
     }
 ACQUIRE(pthread_mutex_lock, MUTEX, (lock), pthread_mutex_t *lock)
 ACQUIRE(pthread_mutex_trylock, MUTEX, (lock), pthread_mutex_t *lock)
