@@ -67,7 +67,7 @@ class Comparison:
 
     def __init__(self, trace, program, windows, names):
         self.trace, self.program, self.windows, self.names = trace, program, dict(windows), names
-        self.differences, self.touched, self.wider, self.late_ends = [], {}, {}, {}
+        self.differences, self.touched, self.wider, self.late = [], {}, {}, {}
         self.group_of = {step.number: group for group in program.groups for step in group.steps}
         self.variables = set(trace.variables)
         self.step_of_line = {line.number: step for step, lines in windows.items() for line in lines}
@@ -82,9 +82,9 @@ class Comparison:
             if id(group) not in done:
                 done.add(id(group))
                 self.compare_group(group)
-        for thread, count in self.late_ends.items():
-            if count:
-                self.differ("missing", None, "the ends of T%d" % thread, "%d too few" % count, "pthread_exit")
+        for thread, events in self.late.items():
+            if events:
+                self.differ("missing", None, "at the end of T%d: %s" % (thread, events), "nothing", "pthread_exit")
         for at, lines in sorted(self.windows.items()):
             for line in lines:
                 if line.operation not in ("r", "w") and 0 <= at < len(self.trace.steps):
@@ -114,13 +114,12 @@ class Comparison:
         for line, thing in ordered:
             if line.thread in threads:
                 kept.append((line, thing))
-            elif line.operation == "end" and self.late_ends.get(line.thread):
-                self.late_ends[line.thread] -= 1
+            elif (line.operation, thing) in self.late.get(line.thread, ()):
+                self.late[line.thread].remove((line.operation, thing))
             else:
                 self.differ("event of another thread", group.steps[0], "none", line)
         if group.steps[0].at_exit:
-            ends = [line for line, _ in kept if line.operation == "end"]
-            self.late_ends[group.steps[0].thread] = len(group.steps) - len(ends)
+            self.wait_for(group, kept)
             return
         wanted = [(step, operation, name) for step in group.steps for operation, name in self.program.events[step.number] if name not in self.variables]
         meeting = group.steps[0].meeting
@@ -136,6 +135,15 @@ class Comparison:
             kept.sort(key=lambda one: str(one[1]))
         self.compare_lists(group, wanted, kept)
 
+    def wait_for(self, group, kept):
+        """Compares the events that a thread's end makes, in any order. Those that are missing may still come."""
+        late = self.late[group.steps[0].thread] = [event for step in group.steps for event in self.program.events[step.number]]
+        for line, thing in kept:
+            if (line.operation, thing) in late:
+                late.remove((line.operation, thing))
+            else:
+                self.differ("extra", group.steps[0], late, line)
+
     def compare_lists(self, group, wanted, kept):
         if len(wanted) != len(kept):
             expected = ", ".join(self.shown(*one) for one in wanted) or "nothing"
@@ -143,14 +151,18 @@ class Comparison:
             return
         for (step, operation, name), (line, thing) in zip(wanted, kept):
             if operation == "begin":
-                same = line.operation == "begin" and matches_label(self.program.labels[step.number], line.name)
+                same = line.operation == "begin" and matches_label(self.label(step, name), line.name)
             else:
                 same = line.operation == operation and thing == name
             if not same or line.thread != step.thread:
                 self.differ("another event", step, self.shown(step, operation, name), line)
 
+    def label(self, step, name):
+        """Returns the label of a block that begins at a step. One that begins again, behind a wait, has the number of its begin as its name."""
+        return self.program.labels[name if name in self.program.labels else step.number]
+
     def shown(self, step, operation, name):
-        name = self.program.labels[step.number] if operation == "begin" else name
+        name = self.label(step, name) if operation == "begin" else name
         return "T%d|%s" % (step.thread, operation if name is None else "%s(%s)" % (operation, name))
 
     # Accesses to variables.

@@ -10,7 +10,7 @@ class Step:
 
     `operation` is r, w, acq, rel, racq and rrel (of a lock for readers), fork, join, begin, end, nop, or one of MORE. `target`
     is the variable, lock, label or thread. `partner` is the end of a begin and the release of an acquire, and the other way
-    round. `at_exit` says that pthread_exit or the like makes this end, at any time before the thread is joined.
+    round. `at_exit` says that pthread_exit or the like makes this end or release, at any time before the thread is joined.
     """
 
     def __init__(self, number, thread, operation, target=None):
@@ -33,7 +33,8 @@ class Meeting:
 class Trace:
     """A random trace of about `size` steps, with the operations of MORE that `features` names.
 
-    The features "twice" (locks that a thread takes twice) and "exit" (threads that end within blocks) change no list of MORE.
+    The features "twice" (locks that a thread takes twice), "exit" (threads that end within blocks), "left" (that may then hold locks)
+    and "spare" (semaphores that are posted while they have permits of their first ones) change no list of MORE.
     """
 
     def __init__(self, random, size, features=()):
@@ -44,14 +45,15 @@ class Trace:
         self.locks = ["l%d" % one for one in range(random.randint(1, 4))]
         self.shared = [one for one in self.locks if random.random() < 0.25]
         self.twice = [one for one in self.locks if one not in self.shared and random.random() < 0.3 and "twice" in self.features]
+        self.robust = [one for one in self.locks if "left" in self.features and one not in self.shared + self.twice and random.random() < 0.4]
         self.labels = ["L%d" % one for one in range(random.randint(2, 8))]
         self.most_threads, self.next_thread = random.randint(2, 5), 2
         self.live, self.ended = [1], []
         self.open_blocks = {1: []}
         self.held = {one: [] for one in self.locks}      # the acquires that have no release yet
         self.things = {kind: [kind + str(one) for one in range(random.randint(1, 2))] for kind in MORE if kind in self.features}
-        self.permits = {name: random.randint(0, 1) for name in self.things.get("semaphore", ())}
-        self.at_first, self.filled = dict(self.permits), {}
+        self.permits = {name: random.randint(0, 2 if "spare" in self.features else 1) for name in self.things.get("semaphore", ())}
+        self.first_permits, self.at_first, self.filled = dict(self.permits), dict(self.permits), {}
         self.make()
 
     def make(self):
@@ -120,6 +122,11 @@ class Trace:
         self.add(thread, "nop")
 
     def add_access(self, thread):
+        chance = self.random.random() if "bytes" in self.things else 1
+        if chance < 0.3:
+            # (C has more kinds of things than the other languages)
+            self.add_touch(thread, self.random.choice(self.things["bytes"])) if chance < 0.2 else self.add_more(thread)
+            return
         variable = self.some_variable()
         step = self.add(thread, self.random.choice(READS_AND_WRITES), variable)
         if step.operation == "r" and self.random.random() < 0.3:
@@ -156,15 +163,22 @@ class Trace:
 
     def finish(self, thread):
         """Adds the steps that end a thread: its releases, the ends of its blocks and, if it leaves by pthread_exit, its join."""
+        left = [lock for lock in self.held_by(thread) if lock in self.robust and self.open_blocks[thread] and thread != 1]
         for lock in self.held_by(thread):
-            self.release(thread, lock)
+            if lock not in left:
+                self.release(thread, lock)
+        for name in self.things.get("handed", ()):
+            if self.filled.get(name) == [thread]:
+                self.add_handed(thread, name)
         if not any(step.thread == thread for step in self.steps):
             # Without an event, a fork and a join in one block would be no cycle, and with the scheduler's events they would.
             self.add(thread, "r", self.some_variable())
-        leaves = thread != 1 and "exit" in self.features and self.open_blocks[thread] and self.random.random() < 0.4
+        leaves = thread != 1 and "exit" in self.features and self.open_blocks[thread] and (left or self.random.random() < 0.4)
         first = len(self.steps)
         while self.open_blocks[thread]:
             self.add_end(thread)
+        for lock in left:
+            self.release(thread, lock)
         if thread == 1:
             return
         self.live.remove(thread)
@@ -187,9 +201,25 @@ class Trace:
             self.permits[name] -= 1
             self.at_first[name] = 0
             self.add(thread, "take", name)
-        elif self.permits[name] < 4 and not self.at_first[name]:
+        elif self.permits[name] < 4 and ("spare" in self.features or not self.at_first[name]):
             self.permits[name] += 1
             self.add(thread, "post", name)
+
+    def add_touch(self, thread, name):
+        """Accesses a part of bytes."""
+        self.add(thread, "touch", name)
+
+    def add_handed(self, thread, name):
+        """Locks a mutex, or unlocks it, whoever has locked it. That thread is still there then, as its end would release the mutex."""
+        holder = self.filled.setdefault(name, [None])
+        before = holder[0]
+        self.add(thread, "unlock" if before else "lock", name)
+        holder[0] = None if before else thread
+        if before not in (None, thread):
+            self.add(before, "nop")
+
+    def add_sync(self, thread, name):
+        self.add(thread, self.random.choice(("before", "after")), name)
 
     def add_once(self, thread, name):
         self.add(thread, "once", name)
@@ -252,8 +282,10 @@ class Trace:
 
 
 #: The kinds of things beside variables and locks, and what adds an operation of them. The operations are post and take of a
-#: semaphore, put and get of a queue, down and await of a latch, once, and in meetings arrive, leave, send and receive.
+#: semaphore, put and get of a queue, down and await of a latch, once, touch of bytes, lock and unlock of a mutex that threads hand on,
+#: before and after of an order that is said, and in meetings arrive, leave, send and receive.
 MORE = {"semaphore": Trace.add_semaphore, "once": Trace.add_once, "queue": Trace.add_queue, "latch": Trace.add_latch,
+        "bytes": Trace.add_touch, "handed": Trace.add_handed, "sync": Trace.add_sync,
         "barrier": Trace.add_barrier, "message": Trace.add_message, "condition": Trace.add_condition}
 
 OPERATIONS = [(12, Trace.add_begin), (10, Trace.add_end), (4, Trace.add_fork), (2, Trace.add_exit), (2, Trace.add_join),

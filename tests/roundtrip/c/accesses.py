@@ -7,6 +7,7 @@ operations, $old the value that is in it, read by the scheduler, $other another 
 """
 from collections import namedtuple
 
+from c.variables import OF_LIBRARY, OF_LOADED
 from program import forms
 
 CHANGES = ["fetch_add", "fetch_sub", "fetch_and", "fetch_or", "fetch_xor", "fetch_nand", "add_fetch", "nand_fetch"]
@@ -231,7 +232,7 @@ def variable_at(program, it, in_library=False):
     """Returns an expression for the variable: its name, or by its address."""
     if it.place.name == "a packed field":
         return "((struct S%d *)((char *)stage_at(%d) - 1))->f" % (it.number, it.number) if program.chance(0.5) else it.direct
-    if not it.direct or (in_library and it.place.name != "a library's global") or program.chance(0.3):
+    if not it.direct or (in_library and it.place.name not in (OF_LIBRARY, OF_LOADED)) or program.chance(0.3):
         return "(*(%s *)stage_at(%d))" % (it.typedef, it.number)
     return it.direct
 

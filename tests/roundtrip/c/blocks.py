@@ -22,6 +22,7 @@ def of_class(name, head, definition, needs="c++", call="($k().$f(1))"):
     return Kind(name, "struct $k { %s; };" % head, "%s $whole" % definition, call, "$k::$f", needs, 1)
 
 
+OF_LIBRARY, OF_LOADED = "a function of a library", "a function of a library that dlopen loads"
 METHOD = "long $k::$f(int)"
 LAMBDA = r"re:(?!const::).*(lambda|\$_\d).*"
 KINDS = [
@@ -39,7 +40,9 @@ KINDS = [
     Kind("a variadic function", "static long $f(int a, ...);",
          "static long $f(int a, ...) { va_list v; va_start(v, a); stage_use(va_arg(v, int)); stage_use_real(va_arg(v, double)); va_end(v);\n$whole }",
          "($f(1, 2, 3.5))", "$f", "", 1),
-    Kind("a function of a library", "$extern long $f(void);", "$extern long $f(void) $whole", "($f())", "$f", "return library only-accesses", 8),
+    Kind(OF_LIBRARY, "$extern long $f(void);", "$extern long $f(void) $whole", "($f())", "$f", "return library only-accesses", 8),
+    Kind(OF_LOADED, "static long (*$f)(void);", "$extern long $f(void) $whole", "($f())", "$f",
+         "return dlopen only-accesses", 8),
     of_class("a method", "long $f(int)", METHOD), of_class("a const method", "long $f(int) const", METHOD + " const"),
     of_class("a static method", "static long $f(int)", METHOD),
     Kind("a virtual method", "struct B$k { virtual long $f(int) = 0; virtual ~B$k() = default; }; struct $k : B$k { virtual long $f(int); }; "
@@ -79,7 +82,7 @@ def choose_kind(program, begin):
     if all(step.operation in ("r", "w", "acq", "rel") and not step.meeting for step in inside):
         traits.add("only-events")
     if not all(step.operation in ("r", "w") for step in inside):
-        traits.discard("library")
+        traits -= {"library", "dlopen"}
     else:
         traits.add("only-accesses")
     possible = [one for one in KINDS if fits(one.needs, traits) and not program.left_out(one.name)]
@@ -103,8 +106,9 @@ def define(program, begin, kind, lines):
     program.labels[begin.number] = string.Template(kind.label).safe_substitute(words)
     if kind not in COMMON:
         program.prototypes.append(string.Template(kind.declared).substitute(words))
-        of_library = kind.name == "a function of a library"
-        (program.library if of_library else program.bodies).append(string.Template(kind.defined).substitute(words))
+        if kind.name == OF_LOADED:
+            program.start.append('%s = (long (*)(void))dlsym(loaded, "%s"); if (!%s) abort();' % (name, name, name))
+        (program.library if kind.name in (OF_LIBRARY, OF_LOADED) else program.bodies).append(string.Template(kind.defined).substitute(words))
     return string.Template(kind.call).substitute(words)
 
 

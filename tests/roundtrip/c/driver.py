@@ -1,6 +1,7 @@
 """Compiles, runs and compares programs in C and C++."""
 import os
 import random
+import re
 from concurrent.futures import ThreadPoolExecutor
 
 import compare
@@ -11,7 +12,10 @@ from traces import Trace
 
 FLAGS = ["-O2", "-O0", "-O1", "-O3", "-Os", "-O2 -D_FORTIFY_SOURCE=2", "-O2 -flto", "-O2 -fPIC"]
 STANDARDS = {"c": ["17", "11"], "c++": ["17", "20", "11", "14", "20", "17"]}
-FEATURES = ("twice", "semaphore", "once", "barrier", "condition")
+FEATURES = ("twice", "semaphore", "spare", "once", "barrier", "condition", "bytes", "handed", "sync")
+SPLITS = ["waits", "threads", "waits,threads"]
+#: What the logger says, once, if a thread unlocks a mutex that another one has locked.
+HANDED = re.compile(r"aerodrome-log: \S+: a thread unlocks the mutex that another one has locked: the log has w\(\.\.handed\) for it from here on\n")
 COMPILERS = {"gcc": {"AERODROME_CC": "gcc", "AERODROME_CXX": "g++"}, "clang": {"AERODROME_CC": "clang", "AERODROME_CXX": "clang++"}}
 
 
@@ -24,15 +28,31 @@ class Choice:
         self.standard = options.std or STANDARDS[self.language][seed % len(STANDARDS[self.language])]
         self.library = options.library or seed % 4 == 3
         self.objects = (options.objects if options.objects is not None else (0, 5)[seed % 2]) if self.language == "c++" else 0
+        self.loads = self.library and seed % 8 == 7
+        self.settings = settings_of(seed)
         self.suffix = "cc" if self.language == "c++" else "c"
         self.wrapper = os.path.join(options.tree, "bin", "aerodrome-c++" if self.language == "c++" else "aerodrome-cc")
 
     def traits(self):
         known = [self.language + one for one in ("11", "14", "17", "20") if int(one) <= int(self.standard)] if self.language == "c++" else []
-        return {self.language, self.compiler} | set(known) | ({"library"} if self.library else set())
+        return {self.language, self.compiler} | set(known) | ({"dlopen" if self.loads else "library"} if self.library else set())
 
     def words(self):
         return [self.wrapper] + self.flags + ["-std=gnu%s%s" % ("++" if self.language == "c++" else "", self.standard), "-w", "-I", driver.HERE + "/c"]
+
+
+def settings_of(seed):
+    """Returns what the environment of a seed's program sets. AERODROME_STIR and AERODROME_PLACES change no event."""
+    settings = {}
+    if seed % 5 == 2:
+        settings["AERODROME_GRAIN"] = str(1 << seed // 5 % 4)
+    if seed % 7 in (1, 4):
+        settings["AERODROME_SPLIT"] = SPLITS[seed // 7 % len(SPLITS)]
+    if seed % 6 == 5:
+        settings["AERODROME_STIR"] = str(seed)
+    if seed % 9 == 3:
+        settings["AERODROME_PLACES"] = "0"
+    return settings
 
 
 def program_of(options, seed):
@@ -40,9 +60,10 @@ def program_of(options, seed):
     choice = Choice(options, seed)
     source = random.Random("%s %d %d" % (options.language, seed, options.size))
     # A thread that leaves by pthread_exit throws in C++.
-    features = FEATURES + (("exit",) if options.language == "c" else ())
+    features = FEATURES + (("exit", "left") if options.language == "c" else ())
     trace = Trace(source, source.randint(10, 2 * options.size), features)
-    return choice, trace, CProgram(trace, source, choice.traits(), options.limits, choice.objects)
+    splits, grain = choice.settings.get("AERODROME_SPLIT", "").split(","), int(choice.settings.get("AERODROME_GRAIN", 0))
+    return choice, trace, CProgram(trace, source, choice.traits(), options.limits, choice.objects, splits, grain)
 
 
 def compiled(choice, program, folder, scheduler):
@@ -55,18 +76,23 @@ def compiled(choice, program, folder, scheduler):
         libraries = ["%s/library.so" % folder]
         driver.write("%s/library.%s" % (folder, choice.suffix), library)
         driver.built(choice.words() + ["-fPIC", "-shared", "%s/library.%s" % (folder, choice.suffix), "-o", libraries[0]], COMPILERS[choice.compiler])
-    driver.built(choice.words() + [source, scheduler] + libraries + ["-o", folder + "/program", "-lm", "-latomic", "-pthread"], COMPILERS[choice.compiler])
+    # (a library that dlopen loads calls the scheduler)
+    linked = ["-rdynamic", "-ldl"] if choice.loads else libraries
+    driver.built(choice.words() + [source, scheduler] + linked + ["-o", folder + "/program", "-lm", "-latomic", "-pthread"], COMPILERS[choice.compiler])
 
 
-def run_once(folder, marked):
-    """Runs a program under the logger, and returns the differences if it fails."""
+def run_once(choice, program, folder, marked):
+    """Runs a program under the logger, and returns the differences if it fails or says something else than it has to."""
     name = "marked" if marked else "plain"
-    settings = {"AERODROME_LOG": "%s/%s.log" % (folder, name), "AERODROME_BLOCKS": "-aside_*", "STAGE_TABLE": "%s/%s.table" % (folder, name)}
+    settings = dict(choice.settings, AERODROME_LOG="%s/%s.log" % (folder, name), AERODROME_BLOCKS="-aside_*", STAGE_TABLE="%s/%s.table" % (folder, name),
+                    STAGE_LIBRARY=folder + "/library.so")
     if marked:
         settings["STAGE_MARKS"] = "1"
     status, _, said = driver.call([folder + "/program"], settings)
-    if status or said:
-        return [compare.Difference("failure", None, name + " run", "status 0", "status %d %s" % (status, said[:500]))]
+    is_said = HANDED.fullmatch(said) if program.hands_on() else not said
+    if status or not is_said:
+        wanted = "status 0" + " and a line on a mutex that is handed on" * program.hands_on()
+        return [compare.Difference("failure", None, name + " run", wanted, "status %d %s" % (status, said[:500]))]
     return []
 
 
@@ -76,7 +102,7 @@ def differences_of(options, seed, folder, scheduler):
     folder = driver.fresh(folder)
     driver.write(folder + "/trace.std", "".join(line + "\n" for _, line in program.lines()))
     compiled(choice, program, folder, scheduler)
-    failures = run_once(folder, True) + run_once(folder, False)
+    failures = run_once(choice, program, folder, True) + run_once(choice, program, folder, False)
     if failures:
         return failures
     symbols = names.symbols_of(folder + "/program", program.left_out("a static local called like its function"))

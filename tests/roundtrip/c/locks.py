@@ -1,4 +1,4 @@
-"""Locks, conditions, semaphores, barriers and once of programs in C and C++."""
+"""Locks, conditions, semaphores, barriers, once and orders that are said of programs in C and C++."""
 from collections import namedtuple
 
 from program import Thing, fits, forms
@@ -7,15 +7,19 @@ from program import Thing, fits, forms
 Kind = namedtuple("Kind", "name declared started traits needs weight")
 
 TYPED = "{ pthread_mutexattr_t a; pthread_mutexattr_init(&a); pthread_mutexattr_settype(&a, PTHREAD_MUTEX_%s); pthread_mutex_init(&$m, &a); }"
+ROBUST = ("{ pthread_mutexattr_t a; pthread_mutexattr_init(&a); pthread_mutexattr_setrobust(&a, PTHREAD_MUTEX_ROBUST); "
+          "pthread_mutex_init(&$m, &a); }")
 KINDS = [
     Kind("pthread_mutex_t", "pthread_mutex_t $m = PTHREAD_MUTEX_INITIALIZER;", "", "mutex", "plain", 1),
-    Kind("pthread_mutex_t that checks", "static pthread_mutex_t $m;", TYPED % "ERRORCHECK", "mutex", "plain", 1),
+    Kind("pthread_mutex_t that checks", "static pthread_mutex_t $m;", TYPED % "ERRORCHECK", "mutex checks", "plain", 1),
     Kind("adaptive pthread_mutex_t", "static pthread_mutex_t $m;", TYPED % "ADAPTIVE_NP", "mutex", "plain", 1),
     Kind("pthread_mutex_t of the heap", "#define $m (*(pthread_mutex_t *)stage_at(1500 + $n))",
          "stage_put(1500 + $n, malloc(sizeof(pthread_mutex_t)), 1); pthread_mutex_init(&$m, 0);", "mutex", "plain", 1),
-    Kind("recursive pthread_mutex_t", "static pthread_mutex_t $m;", TYPED % "RECURSIVE", "mutex", "twice", 1),
+    Kind("robust pthread_mutex_t", "static pthread_mutex_t $m;", ROBUST, "robust", "robust", 1),
+    Kind("recursive pthread_mutex_t", "static pthread_mutex_t $m;", TYPED % "RECURSIVE", "mutex checks", "twice", 1),
     Kind("pthread_spinlock_t", "static pthread_spinlock_t $m;", "pthread_spin_init(&$m, 0);", "spin", "plain", 1),
     Kind("pthread_rwlock_t", "pthread_rwlock_t $m = PTHREAD_RWLOCK_INITIALIZER;", "", "rwlock", "shared", 1),
+    Kind("a lock that annotations tell of", "static int $m;", "", "told", "shared", 1),
     Kind("mtx_t", "static mtx_t $m;", "mtx_init(&$m, mtx_plain);", "mtx", "plain", 1),
     Kind("timed mtx_t", "static mtx_t $m;", "mtx_init(&$m, mtx_timed);", "mtx mtx-timed", "plain", 1),
     Kind("recursive mtx_t", "static mtx_t $m;", "mtx_init(&$m, mtx_plain | mtx_recursive);", "mtx", "twice", 1),
@@ -32,9 +36,12 @@ MONOTONIC = "struct timespec t; clock_gettime(CLOCK_MONOTONIC, &t); t.tv_sec += 
 PAST = "struct timespec t = {1, 0}; "
 
 #: How a lock is taken. Those with the trait "scope" open a scope whose end releases it. $s is "_shared" for a reader, $r "rd" or
-#: "wr", $kind the lock's class, $guard a name of its own.
+#: "wr", $flags 8 for a reader or 0, $kind the lock's class, $guard a name of its own.
 TAKES = forms([
     ("pthread_mutex_lock", "pthread_mutex_lock(&$m);", "mutex", 2),
+    ("pthread_mutex_lock, whose owner may have ended", "if (pthread_mutex_lock(&$m) == EOWNERDEAD) pthread_mutex_consistent(&$m);", "robust", 2),
+    ("pthread_mutex_trylock, whose owner may have ended",
+     "{ int r = pthread_mutex_trylock(&$m); if (r == EOWNERDEAD) r = pthread_mutex_consistent(&$m); if (r) abort(); }", "robust"),
     ("pthread_mutex_trylock", "if (pthread_mutex_trylock(&$m)) abort();", "mutex"),
     ("pthread_mutex_timedlock", "{ " + REAL + "if (pthread_mutex_timedlock(&$m, &t)) abort(); }", "mutex"),
     ("pthread_mutex_clocklock", "{ " + MONOTONIC + "if (pthread_mutex_clocklock(&$m, CLOCK_MONOTONIC, &t)) abort(); }", "mutex"),
@@ -46,6 +53,8 @@ TAKES = forms([
     ("pthread_rwlock_try", "if (pthread_rwlock_try${r}lock(&$m)) abort();", "rwlock"),
     ("pthread_rwlock_timed", "{ " + REAL + "if (pthread_rwlock_timed${r}lock(&$m, &t)) abort(); }", "rwlock"),
     ("pthread_rwlock_clock", "{ " + MONOTONIC + "if (pthread_rwlock_clock${r}lock(&$m, CLOCK_MONOTONIC, &t)) abort(); }", "rwlock"),
+    ("__tsan_mutex_post_lock", "__tsan_mutex_pre_lock(&$m, $flags); __tsan_mutex_post_lock(&$m, $flags, 0);", "told"),
+    ("AnnotateRWLockAcquired", "AnnotateRWLockAcquired(__FILE__, __LINE__, &$m, !$flags);", "told"),
     ("mtx_lock", "mtx_lock(&$m);", "mtx"),
     ("mtx_trylock", "if (mtx_trylock(&$m) != thrd_success) abort();", "mtx"),
     ("mtx_timedlock", "{ " + REAL + "if (mtx_timedlock(&$m, &t) != thrd_success) abort(); }", "mtx-timed"),
@@ -61,15 +70,19 @@ TAKES = forms([
     ("shared_lock", "{ std::shared_lock<$kind> $guard($m);", "std scope reads", 2),
 ])
 RELEASES = forms([
-    ("pthread_mutex_unlock", "pthread_mutex_unlock(&$m);", "mutex"), ("pthread_spin_unlock", "pthread_spin_unlock(&$m);", "spin"),
+    ("pthread_mutex_unlock", "pthread_mutex_unlock(&$m);", "mutex|robust"), ("pthread_spin_unlock", "pthread_spin_unlock(&$m);", "spin"),
     ("pthread_rwlock_unlock", "pthread_rwlock_unlock(&$m);", "rwlock"), ("mtx_unlock", "mtx_unlock(&$m);", "mtx"),
     ("unlock", "$m.unlock$s();", "std"),
+    ("__tsan_mutex_pre_unlock", "__tsan_mutex_pre_unlock(&$m, $flags); __tsan_mutex_post_unlock(&$m, $flags);", "told"),
+    ("AnnotateRWLockReleased", "AnnotateRWLockReleased(__FILE__, __LINE__, &$m, !$flags);", "told"),
 ])
-#: Tries that fail, as another thread has the lock.
+#: Tries that fail, and unlocks that are refused, as another thread has the lock.
 FAILURES = forms([
-    ("pthread_mutex_trylock that fails", "if (!pthread_mutex_trylock(&$m)) abort();", "mutex"),
+    ("pthread_mutex_trylock that fails", "if (!pthread_mutex_trylock(&$m)) abort();", "mutex|robust"),
     ("pthread_mutex_timedlock that fails", "{ " + PAST + "if (!pthread_mutex_timedlock(&$m, &t)) abort(); }", "mutex"),
     ("pthread_mutex_clocklock that fails", "{ " + PAST + "if (!pthread_mutex_clocklock(&$m, CLOCK_MONOTONIC, &t)) abort(); }", "mutex"),
+    ("pthread_mutex_unlock that is refused", "if (!pthread_mutex_unlock(&$m)) abort();", "checks|robust"),
+    ("__tsan_mutex_post_lock that fails", "__tsan_mutex_pre_lock(&$m, 1 << 4); __tsan_mutex_post_lock(&$m, 1 << 4 | 1 << 5, 0);", "told"),
     ("pthread_spin_trylock that fails", "if (!pthread_spin_trylock(&$m)) abort();", "spin"),
     ("pthread_rwlock_trywrlock that fails", "if (!pthread_rwlock_trywrlock(&$m)) abort();", "rwlock"),
     ("pthread_rwlock_timedwrlock that fails", "{ " + PAST + "if (!pthread_rwlock_timedwrlock(&$m, &t)) abort(); }", "rwlock"),
@@ -108,6 +121,7 @@ CONDITIONS = [
               "$c.notify_one();", "std-mutex", 1),
     Condition("condition_variable.wait with a predicate", "static std::condition_variable $c;",
               UNIQUE % ("std::mutex", "$c.wait(u, [] { return stage_flagged($flag) != 0; });"), "$c.notify_all();", "std-mutex", 1),
+    Condition("condition_variable_any.wait", "static std::condition_variable_any $c;", LOOP % "$c.wait($m)", "$c.notify_all();", "std", 1),
 ]
 
 #: Other things: what declares and starts them, and the texts of their operations. $k is the thing, $count a number of threads,
@@ -127,6 +141,20 @@ OTHERS = {
         Other("call_once of threads.h", "static once_flag $k = ONCE_FLAG_INIT;", "", {"once": forms([("call_once", "call_once(&$k, aside_nothing);")])},
               "c", 1),
         Other("std::call_once", "static std::once_flag $k;", "", {"once": forms([("std::call_once", "std::call_once($k, aside_nothing);")])}, "c++", 1)],
+    "handed": [
+        Other("pthread_mutex_t that threads hand on", "static pthread_mutex_t $k = PTHREAD_MUTEX_INITIALIZER;", "", {
+            "lock": forms([("pthread_mutex_lock", "pthread_mutex_lock(&$k);"), ("pthread_mutex_trylock", "if (pthread_mutex_trylock(&$k)) abort();")]),
+            "unlock": forms([("pthread_mutex_unlock", "pthread_mutex_unlock(&$k);")])}, "", 2),
+        Other("mtx_t that threads hand on", "static mtx_t $k;", "mtx_init(&$k, mtx_plain);", {
+            "lock": forms([("mtx_lock", "mtx_lock(&$k);")]), "unlock": forms([("mtx_unlock", "mtx_unlock(&$k);")])}, "", 1),
+        Other("pthread_spinlock_t that threads hand on", "static pthread_spinlock_t $k;", "pthread_spin_init(&$k, 0);", {
+            "lock": forms([("pthread_spin_lock", "pthread_spin_lock(&$k);")]), "unlock": forms([("pthread_spin_unlock", "pthread_spin_unlock(&$k);")])},
+              "", 1)],
+    "sync": [
+        Other("an order that is said", "static long $k;", "", {
+            "before": forms([("__tsan_release", "__tsan_release(&$k);"), ("AnnotateHappensBefore", "AnnotateHappensBefore(__FILE__, __LINE__, &$k);")]),
+            "after": forms([("__tsan_acquire", "__tsan_acquire(&$k);"), ("AnnotateHappensAfter", "AnnotateHappensAfter(__FILE__, __LINE__, &$k);")])},
+              "", 1)],
     "barrier": [
         Other("a barrier", "static pthread_barrier_t $k;", "", {"arrive": forms([("pthread_barrier_wait", "pthread_barrier_wait(&$k);")])}, "", 1)],
 }
@@ -135,7 +163,7 @@ OTHERS = {
 def make_lock(program, number, name):
     """Returns a lock, and adds its declaration to the program."""
     it, trace = Thing(number, name), program.trace
-    use = "shared" if name in trace.shared else "twice" if name in trace.twice else "plain"
+    use = "shared" if name in trace.shared else "twice" if name in trace.twice else "robust" if name in trace.robust else "plain"
     possible = [one for one in KINDS if fits(one.needs, program.traits | {use})]
     it.kind = program.random.choices(possible, [one.weight for one in possible])[0]
     it.traits = set(it.kind.traits.split())
@@ -147,7 +175,7 @@ def make_lock(program, number, name):
 
 
 def make_other(program, kind, number, name):
-    """Returns a semaphore, a barrier or a once, and adds its declaration to the program."""
+    """Returns a thing of OTHERS, and adds its declaration to the program."""
     it = Thing(number, name)
     possible = [one for one in OTHERS[kind] if fits(one.needs, program.traits)]
     it.kind = program.random.choices(possible, [one.weight for one in possible])[0]
@@ -162,14 +190,15 @@ def take(program, step, scopes):
     """Returns the name and the text of an acquire, and whether it opens a scope."""
     it, reads = program.locks[step.target], step.operation == "racq"
     traits = it.traits | ({"scope"} if program.releases_in_order(step, scopes) else set()) | ({"reads"} if reads else set())
-    words = dict(it.words, s="_shared" if reads else "", r="rd" if reads else "wr", guard=program.new_name("guard"))
+    words = dict(it.words, s="_shared" if reads else "", r="rd" if reads else "wr", flags=8 if reads else 0, guard=program.new_name("guard"))
     how, text = program.choose(TAKES, traits, words)
     return "%s of a %s" % (how, it.kind.name), text, text.count("{") > text.count("}")
 
 
 def release(program, step):
     it = program.locks[step.target]
-    how, text = program.choose(RELEASES, it.traits, dict(it.words, s="_shared" if step.operation == "rrel" else ""))
+    reads = step.operation == "rrel"
+    how, text = program.choose(RELEASES, it.traits, dict(it.words, s="_shared" if reads else "", flags=8 if reads else 0))
     return "%s of a %s" % (how, it.kind.name), text
 
 

@@ -3,14 +3,17 @@ import re
 import subprocess
 from collections import namedtuple
 
+from c.sizes import part_name
+
 NAME = re.compile(r"^(?:0x(?P<address>[0-9a-f]+)|(?P<symbol>.*?)(?:\+(?P<offset>\d+))?(?:@(?P<base>[0-9a-f]+))?)(?:\.(?P<times>\d+))?$")
-PREFIXES = {"rw.": "l", "sem.": "semaphore", "bar.": "barrier", "once.": "once"}
-KINDS = {"semaphore": "sem.%s.%s", "barrier": "bar.%s", "once": "once.%s"}
+PREFIXES = {"rw.": "l", "sem.": "semaphore", "bar.": "barrier", "once.": "once", "sync.": "sync"}
+KINDS = {"semaphore": "sem.%s.%s", "barrier": "bar.%s", "once": "once.%s", "sync": "sync.%s", "handed": "%s%s"}
+HANDED = ".handed"
 FOREVER = 1 << 30
 
 
-class Place(namedtuple("Place", "kind number start size first last")):
-    """Where a thing was, from one step to another."""
+class Place(namedtuple("Place", "kind number start size first last turn")):
+    """Where a thing was, from one step to another. `turn` counts the places that it had before."""
 
     def is_at(self, address, step):
         return self.start <= address < self.start + self.size and self.first <= step <= self.last
@@ -21,16 +24,18 @@ class Names:
 
     def __init__(self, program, table, symbols):
         self.program, self.places, self.found = program, [], {}
+        self.name_of_part, self.part_of_name, self.is_lasting = {}, {}, False
         for line in open(table):
-            kind, *numbers = line.split()
-            self.places.append(Place(kind, *map(int, numbers)))
+            kind, number, *numbers = line.split()
+            turn = len([one for one in self.places if (one.kind, one.number) == (kind, int(number))])
+            self.places.append(Place(kind, int(number), *map(int, numbers), turn))
         marks = next(place.start for place in self.places if place.kind == "marks")
         moved = marks - min(symbols["stage_marks"])
         self.symbols = {name: {at + moved for at in addresses} for name, addresses in symbols.items()}
 
     def step_of_mark(self, line):
         if line.operation == "w" and line.name.startswith("stage_marks"):
-            return int(line.name.partition("+")[2] or 0)
+            return int(line.name.partition("+")[2] or 0) // 8
         return None
 
     def addresses(self, name):
@@ -57,24 +62,32 @@ class Names:
 
     def look(self, name, step):
         prefix = next((one for one in PREFIXES if name.startswith(one)), "")
-        rest, post = name[len(prefix):], None
+        rest, post = name[len(prefix):], ""
         if prefix == "sem.":
             rest, _, post = rest.rpartition(".")
+        elif rest.endswith(HANDED):
+            rest, post = rest[:-len(HANDED)], HANDED
         wanted = PREFIXES.get(prefix)
         for address in self.addresses(rest):
             for place in self.places:
                 if place.is_at(address, step) and place.number < 1000 and wanted in (None, place.kind):
-                    return self.name_of(place, prefix, post)
+                    return self.name_of_bytes(place, address, name) if place.kind == "bytes" else self.name_of(place, prefix, post)
         is_known = self.program.left_out("once of the unwinder") or any("std::async" in one.name for one in self.program.starts.values())
         return name if prefix == "once." and not is_known else None
 
     def name_of(self, place, prefix, post):
         if place.kind in ("x", "l"):
-            return ("rw." if prefix else "") + "%s%d" % (place.kind, place.number)
+            return ("rw." if prefix else "") + "%s%d%s" % (place.kind, place.number, post)
         if place.kind not in KINDS:
             return None
         name = place.kind + str(place.number)
-        return KINDS[place.kind] % ((name, post) if place.kind == "semaphore" else name)
+        return KINDS[place.kind] % ((name, post) if place.kind in ("semaphore", "handed") else name)
+
+    def name_of_bytes(self, place, address, name):
+        """Returns the name of a part of bytes. Each part has one name in the log as long as it is there, and no other one has it."""
+        part = part_name("bytes%d" % place.number, place.turn, address - place.start)
+        is_known = self.name_of_part.setdefault(part, name) == name and self.part_of_name.setdefault(name, part) == part
+        return part if is_known or self.is_lasting else "%s, which isn't %s" % (name, part)
 
     def may_read(self, variable):
         """Returns whether a write of the variable may read it too: objects of std look at their fields."""
@@ -85,14 +98,20 @@ class Names:
         found, number = set(), self.program.variables[variable].number
         for place in self.places:
             if place.kind == "x" and place.number == number and place.first <= step.number <= place.last:
+                # (AERODROME_GRAIN counts from the first byte of a global variable, wherever that lies)
+                first = place.start - 7 if self.program.grain else place.start & ~7
                 for line in lines:
                     if line.thread == step.thread and line.operation == operation and line.name:
-                        found |= {(line.name, operation) for at in self.addresses(line.name) if place.start & ~7 <= at < place.start}
+                        found |= {(line.name, operation) for at in self.addresses(line.name) if first <= at < place.start}
         return found
 
     def lasting(self):
-        """Keeps only the places that last from the first step to the last, at any step. Names are looked up anew."""
-        self.places = [Place(one.kind, one.number, one.start, one.size, -FOREVER, FOREVER)
+        """Keeps only the places that last from the first step to the last, at any time. Names are looked up anew.
+
+        What lay there before the first step is taken for them too.
+        """
+        self.is_lasting = True
+        self.places = [Place(one.kind, one.number, one.start, one.size, -FOREVER, FOREVER, one.turn)
                        for one in self.places if one.first == 0 and one.last == FOREVER]
         self.found = {}
 

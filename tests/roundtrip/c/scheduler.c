@@ -1,5 +1,6 @@
 /* The hidden scheduler of generated programs: one counter says whose turn it is. If STAGE_MARKS is set, each turn adds a line to
- * the log, `w(stage_marks+STEP)`, by a direct call of a hook. */
+ * the log, `w(stage_marks+BYTE)`, by a direct call of a hook. The mark of each step has eight bytes of its own, so no AERODROME_GRAIN
+ * makes two of them one. */
 #define _GNU_SOURCE
 #include "scheduler.h"
 
@@ -15,7 +16,7 @@
 #include <unistd.h>
 
 extern void __tsan_write1(void *) __attribute__((weak));
-unsigned char stage_marks[1 << 14];
+unsigned char stage_marks[1 << 17];
 static atomic_int current;
 static atomic_int marked = -1;
 
@@ -41,7 +42,7 @@ void stage_turn(int step) {
         }
     }
     if (marked < 0) marked = getenv("STAGE_MARKS") != NULL;
-    if (marked && __tsan_write1) __tsan_write1(stage_marks + step);
+    if (marked && __tsan_write1) __tsan_write1(stage_marks + 8 * step);
 }
 void stage_done(int step) {
     current = step + 1;
@@ -66,9 +67,15 @@ void stage_put(int variable, const volatile void *at, size_t size) {
     now_at[variable] = (void *)at;
 }
 void *stage_at(int variable) { return now_at[variable]; }
-void stage_remove(int variable) {
+static void end_place(const char *kind, int number) {
     for (int one = 0; one < place_count; one++)
-        if (!strcmp(places[one].kind, "x") && places[one].number == variable && places[one].to == 1 << 30) places[one].to = current;
+        if (!strcmp(places[one].kind, kind) && places[one].number == number && places[one].to == 1 << 30) places[one].to = current;
+}
+void stage_remove(int variable) { end_place("x", variable); }
+void stage_bytes(int number, const volatile void *at) {
+    end_place("bytes", number);
+    add_place("bytes", number, (void *)at, 24);
+    now_at[1900 + number] = (void *)at;
 }
 void stage_thing(const char *kind, int number, const volatile void *at) { add_place(kind, number, (void *)at, 1); }
 void stage_finish(int steps) {
@@ -92,6 +99,13 @@ void stage_use(long value) { (void)value; }
 void stage_use_real(double value) { (void)value; }
 void stage_see(const volatile void *at) { (void)at; }
 void *stage_pass(void *at) { return at; }
+/* (by single bytes, since a memset here would be logged) */
+char *stage_text(void *at, size_t length) {
+    volatile char *to = (volatile char *)at;
+    for (size_t byte = 0; byte < length; byte++) to[byte] = 'x';
+    to[length] = 0;
+    return (char *)at;
+}
 void *stage_source(void) { return source + 8; }
 void *stage_scratch(void) { return scratch + 8; }
 void stage_flag(int number) { flags[number] = 1; }

@@ -10,6 +10,7 @@ void stage_done(int step);           /* lets the step behind this one go on */
 void stage_put(int variable, const volatile void *at, size_t size);     /* says where a variable is from now on */
 void *stage_at(int variable);
 void stage_remove(int variable);     /* says that a variable isn't there any more */
+void stage_bytes(int number, const volatile void *at);  /* says where 24 bytes are from now on, as places.py has them */
 void stage_thing(const char *kind, int number, const volatile void *at);        /* says where a lock or the like is */
 void stage_finish(int steps);        /* waits for all steps, and writes where things were to the file STAGE_TABLE */
 long stage_any(void);                /* a number that the compiler doesn't know */
@@ -22,6 +23,7 @@ void *stage_source(void);            /* bytes that nobody writes */
 void *stage_scratch(void);           /* bytes of the thread's own */
 long stage_peek(const volatile void *at, size_t size);  /* the value there, read without an event */
 void *stage_stack(int thread);       /* 128 KiB for the thread's stack */
+char *stage_text(void *at, size_t length);  /* puts a text of that length there, without an event, and returns its address */
 void stage_flag(int number);         /* sets a flag, without an event */
 int stage_flagged(int number);
 void stage_unwind(void);             /* looks at the stack, as an exception does */

@@ -41,6 +41,15 @@ JOINS = forms([
     ("get of a future", "thread$t.get();", "std::future<void>"),
     ("wait for a future", "thread$t.wait();", "std::future<void>"),
 ])
+#: How a thread ends within its blocks.
+LEAVES = forms([
+    ("pthread_exit", "pthread_exit(0);", "", 3), ("thrd_exit", "thrd_exit(0);", "c11", 2),
+    ("pthread_cancel", "pthread_cancel(pthread_self()); pthread_testcancel();"),
+    ("pthread_cancel at a wait", "pthread_cancel(pthread_self()); { sem_t s; sem_init(&s, 0, 0); sem_wait(&s); }"),
+    ("pthread_cancel at any time", "pthread_setcanceltype(PTHREAD_CANCEL_ASYNCHRONOUS, 0); pthread_cancel(pthread_self()); for (;;) aside_leaf(3);"),
+    ("pthread_cancel at any time, at an access",
+     "pthread_setcanceltype(PTHREAD_CANCEL_ASYNCHRONOUS, 0); pthread_cancel(pthread_self()); for (;;) stage_use(*(volatile char *)stage_source());"),
+])
 #: Acts without an event.
 NOTHING = forms([
     ("malloc and free", "free(malloc((size_t)stage_any()));"), ("sched_yield", "sched_yield();"), ("fence", "__atomic_thread_fence(__ATOMIC_SEQ_CST);"),
@@ -48,6 +57,8 @@ NOTHING = forms([
     ("an array of any length", "{ char l[stage_same(9)]; stage_see(l); }"),
     ("throw and catch", "try { stage_use(1); if (stage_same(1)) throw 3; } catch (int) {}", "c++"),
     ("a string of its own", '{ std::string s("a longer text than fits"); stage_see(s.c_str()); }', "c++"),
+    ("AnnotateIgnoreReadsBegin", "AnnotateIgnoreReadsBegin(__FILE__, __LINE__); AnnotateIgnoreReadsEnd(__FILE__, __LINE__);"),
+    ("AnnotateBenignRaceSized", 'AnnotateBenignRaceSized(__FILE__, __LINE__, stage_source(), 8, "");'),
     ("throw through a function", "try { aside_throws(1); } catch (int) {}", "c++"), ("std::this_thread::yield", "std::this_thread::yield();", "c++"),
 ])
 ENDS = [("return", 4), ("longjmp", 1), ("tail", 3)]
@@ -70,6 +81,10 @@ def join(program, step):
     start = program.starts[step.target]
     how, text = program.choose(JOINS, start.traits.split(), {"t": step.target})
     return "%s of %s" % (how, start.name), text
+
+
+def leave(program, thread):
+    return program.choose(LEAVES, program.starts[thread].traits.split())[1]
 
 
 def function_of(start, thread, body):

@@ -26,6 +26,7 @@ FAMILIES = {"scalar": (5, SCALARS, "%s"), "structure": (5, STRUCTURES, "%s"), "b
 #: what its type has to be. $g is a name of its own, $type its type, $n its number, $i an index from 0 to 3.
 Place = namedtuple("Place", "name declared direct born needs weight")
 
+OF_LIBRARY, OF_LOADED = "a library's global", "a global of a library that dlopen loads"
 PUT = "stage_put($n, &%s, sizeof($type));"
 LATE = "late -awkward -atomic -object"
 PLACES = [
@@ -33,9 +34,9 @@ PLACES = [
     Place("a static", "static $type $g;", "$g", PUT % "$g", "", 1),
     Place("a field", "struct S$n { $before $type f; $behind }; struct S$n $g;", "$g.f", PUT % "$g.f", "", 1),
     Place("an element", "$type $g[4];", "$g[$index]", PUT % "$g[$i]", "", 1),
-    Place("main's stack", "", "", "$type $g; " + PUT % "$g", "", 1),
+    Place("main's stack", "", "", "$type $g$aligned; " + PUT % "$g", "", 1),
     Place("a static local", "", "", "static $type $g; " + PUT % "$g", "", 1),
-    Place("a thread-local of main", "static __thread $type $g;", "", PUT % "$g", "-object", 1),
+    Place("a thread-local of main", "static __thread $type $g$aligned;", "", PUT % "$g", "-object", 1),
     Place("heap", "", "", "stage_put($n, $new, sizeof($type));", "-awkward -object", 1),
     Place("heap, allocated late", "", "", "stage_put($n, $new, sizeof($type));", "-awkward -object", 3),
     Place("mmap", "", "", "stage_put($n, mmap(0, 8192, PROT_READ | PROT_WRITE, MAP_PRIVATE | MAP_ANONYMOUS, -1, 0), sizeof($type));",
@@ -44,7 +45,8 @@ PLACES = [
           "p = (char *)realloc(p, 24 + sizeof($type)); stage_put($n, p + 16, sizeof($type)); }", "-awkward -object", 1),
     Place("a packed field", "struct __attribute__((packed)) S$n { char c; $type f; }; struct S$n $g;", "$g.f",
           "stage_put($n, (char *)&$g + 1, sizeof($type));", "-awkward -atomic -object", 1),
-    Place("a library's global", "extern $extern $type $g;", "$g", PUT % "$g", "library -object", 3),
+    Place(OF_LIBRARY, "extern $extern $type $g;", "$g", PUT % "$g", "library -object", 3),
+    Place(OF_LOADED, "", "", 'stage_put($n, dlsym(loaded, "$g"), sizeof($type));', "dlopen -object", 3),
     Place("a vector", "std::vector<$type> $g(4);", "$g[$index]", PUT % "$g[$i]", "c++ -awkward -atomic -boolean -volatile -object", 1),
     Place("a std::array", "std::array<$type, 4> $g;", "$g[$index]", PUT % "$g[$i]", "c++ -object", 1),
     Place("a member of a class", "struct S$n { static $type f; }; $type S$n::f;", "S$n::f", PUT % "S$n::f", "c++", 1),
@@ -78,7 +80,8 @@ def choose_type(program, it, objects):
         it.object = program.random.choice(objects)
         it.type = Type(it.object.type, it.object.size, "")
     else:
-        it.type = program.random.choice([one for one in FAMILIES[it.family][1] if not program.left_out("type " + one.name)])
+        most = 256 if program.grain else 4096
+        it.type = program.random.choice([one for one in FAMILIES[it.family][1] if one.size <= most and not program.left_out("type " + one.name)])
     it.traits = {it.family} | set(it.type.traits.split())
     # These want an alignment of 16 or 32 bytes, which not each place has.
     if it.type.name in ("vector16", "vector32", "__int128", "long double"):
@@ -111,5 +114,5 @@ def choose_place(program, it):
     if new.startswith("operator"):
         it.free = "operator delete"
     it.words = {"g": "g%d" % it.number, "type": it.typedef, "n": it.number, "i": at, "extern": '"C"' if "c++" in program.traits else "",
-                "index": random.choice([str(at), "stage_same(%d)" % at]), "before": random.choice(["", "char c;", "int i;"]),
+                "aligned": " __attribute__((aligned(16)))" if program.grain else "", "index": random.choice([str(at), "stage_same(%d)" % at]), "before": random.choice(["", "char c;", "int i;"]),
                 "behind": random.choice(["", "char d;", "long j;"]), "new": new.replace("$type", it.typedef)}
