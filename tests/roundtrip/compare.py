@@ -82,13 +82,13 @@ class Comparison:
             if id(group) not in done:
                 done.add(id(group))
                 self.compare_group(group)
-        for thread, events in self.late.items():
-            if events:
-                self.differ("missing", None, "at the end of T%d: %s" % (thread, events), "nothing", "pthread_exit")
         for at, lines in sorted(self.windows.items()):
             for line in lines:
-                if line.operation not in ("r", "w") and 0 <= at < len(self.trace.steps):
+                if line.operation not in ("r", "w") and not self.comes_late(line, line.name) and 0 <= at < len(self.trace.steps):
                     self.differ("extra", None, "no event", line, "between the steps")
+        for thread, events in self.late.items():
+            if events:
+                self.differ("missing", None, "at the end of T%d: %s" % (thread, events), "nothing", "pthread_exit or the like")
         self.compare_conflicts()
         return self.differences
 
@@ -114,9 +114,7 @@ class Comparison:
         for line, thing in ordered:
             if line.thread in threads:
                 kept.append((line, thing))
-            elif (line.operation, thing) in self.late.get(line.thread, ()):
-                self.late[line.thread].remove((line.operation, thing))
-            else:
+            elif not self.comes_late(line, thing):
                 self.differ("event of another thread", group.steps[0], "none", line)
         if group.steps[0].at_exit:
             self.wait_for(group, kept)
@@ -139,10 +137,16 @@ class Comparison:
         """Compares the events that a thread's end makes, in any order. Those that are missing may still come."""
         late = self.late[group.steps[0].thread] = [event for step in group.steps for event in self.program.events[step.number]]
         for line, thing in kept:
-            if (line.operation, thing) in late:
-                late.remove((line.operation, thing))
-            else:
+            if not self.comes_late(line, thing):
                 self.differ("extra", group.steps[0], late, line)
+
+    def comes_late(self, line, thing):
+        """Returns whether it is an event that its thread's end has to make, which then has come."""
+        late = self.late.get(line.thread, ())
+        found = (line.operation, thing) in late
+        if found:
+            late.remove((line.operation, thing))
+        return found
 
     def compare_lists(self, group, wanted, kept):
         if len(wanted) != len(kept):

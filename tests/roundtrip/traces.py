@@ -33,8 +33,8 @@ class Meeting:
 class Trace:
     """A random trace of about `size` steps, with the operations of MORE that `features` names.
 
-    The features "twice" (locks that a thread takes twice), "exit" (threads that end within blocks), "left" (that may then hold locks)
-    and "spare" (semaphores that are posted while they have permits of their first ones) change no list of MORE.
+    The features "twice" (locks that a thread takes twice), "exit" and "exit of main" (threads that end within blocks), "left" (that may
+    then hold locks) and "spare" (semaphores that are posted while they have permits of their first ones) change no list of MORE.
     """
 
     def __init__(self, random, size, features=()):
@@ -173,20 +173,22 @@ class Trace:
         if not any(step.thread == thread for step in self.steps):
             # Without an event, a fork and a join in one block would be no cycle, and with the scheduler's events they would.
             self.add(thread, "r", self.some_variable())
-        leaves = thread != 1 and "exit" in self.features and self.open_blocks[thread] and (left or self.random.random() < 0.4)
+        may_leave = "exit" in self.features if thread != 1 else "exit of main" in self.features
+        leaves = may_leave and self.open_blocks[thread] and (left or self.random.random() < 0.4)
         first = len(self.steps)
         while self.open_blocks[thread]:
             self.add_end(thread)
         for lock in left:
             self.release(thread, lock)
+        if leaves:
+            for step in self.steps[first:]:
+                step.at_exit = True
         if thread == 1:
             return
         self.live.remove(thread)
         if not leaves:
             self.ended.append(thread)
             return
-        for step in self.steps[first:]:
-            step.at_exit = True
         self.add(self.random.choice(self.live), "join", thread)
 
     # Operations of MORE.

@@ -59,8 +59,8 @@ def program_of(options, seed):
     """Returns how a seed's program is compiled, its trace and the program."""
     choice = Choice(options, seed)
     source = random.Random("%s %d %d" % (options.language, seed, options.size))
-    # A thread that leaves by pthread_exit throws in C++.
-    features = FEATURES + (("exit", "left") if options.language == "c" else ())
+    # A thread that leaves by pthread_exit throws in C++, and exit there ends variables that others still use.
+    features = FEATURES + (("exit", "exit of main", "left") if options.language == "c" else ())
     trace = Trace(source, source.randint(10, 2 * options.size), features)
     splits, grain = choice.settings.get("AERODROME_SPLIT", "").split(","), int(choice.settings.get("AERODROME_GRAIN", 0))
     return choice, trace, CProgram(trace, source, choice.traits(), options.limits, choice.objects, splits, grain)

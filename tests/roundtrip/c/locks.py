@@ -104,6 +104,10 @@ WAITS = forms([
      "c.wait_until(u, std::chrono::system_clock::now()); u.release(); }", "std-mutex"),
 ])
 
+#: How a thread waits for a lock that another one has.
+WAITED = forms([("pthread_mutex_lock", "pthread_mutex_lock(&$m);", "mutex|robust"), ("pthread_spin_lock", "pthread_spin_lock(&$m);", "spin"),
+                ("mtx_lock", "mtx_lock(&$m);", "mtx"), ("lock", "$m.lock();", "std")])
+
 #: Conditions: what declares one, and the texts of who waits and of who wakes. $c is the condition, $flag a number of its own.
 Condition = namedtuple("Condition", "name declared waits wakes needs weight")
 
@@ -223,10 +227,10 @@ def fail(program, step):
 
 
 def condition(program, meeting):
-    """Returns the name of a condition and the texts of who waits and of who wakes, or None if the lock has no conditions."""
+    """Returns the name of a condition and the texts of who waits and of who wakes, or None if none is used."""
     it = program.locks[meeting.target]
     possible = [one for one in CONDITIONS if fits(one.needs, it.traits)]
-    if not possible:
+    if not possible or program.chance(0.3):
         return None
     one = program.random.choice(possible)
     words = dict(it.words, c="condition%d" % meeting.steps[0].number, flag=meeting.steps[0].number)

@@ -6,7 +6,7 @@ from program import Body, Program
 from traces import event_of, line_of
 
 HEADERS = ["dlfcn.h", "errno.h", "pthread.h", "semaphore.h", "setjmp.h", "stdlib.h", "string.h", "strings.h", "threads.h", "time.h", "sched.h", "stdarg.h",
-           "sys/mman.h", "emmintrin.h"]
+           "sys/mman.h", "sys/syscall.h", "unistd.h", "emmintrin.h"]
 HEADERS_OF_CXX = ["algorithm", "array", "atomic", "bitset", "chrono", "complex", "condition_variable", "deque", "functional", "future", "list", "map",
                   "memory", "mutex", "new", "numeric", "string", "thread", "tuple", "unordered_map", "vector"]
 TYPES = """#include "scheduler.h"
@@ -373,21 +373,19 @@ def meeting_of(program, meeting):
 
 def condition_of(program, meeting):
     (rel, acq, again, back), waiter = meeting.steps, meeting.steps[0].thread
-    found = locks.condition(program, meeting)
-    unlock, lock = locks.release(program, rel)[1], locks.take(program, acq, [])[1]
+    found, it = locks.condition(program, meeting), program.locks[meeting.target]
+    unlock, lock = locks.release(program, rel)[1], program.choose(locks.WAITED, it.traits, it.words)[1]
     if not found:
-        # A lock without conditions: the waker takes it while the waiter is waiting for its turn.
-        parts = {waiter: "stage_turn(%d); %s stage_done(%d); stage_turn(%d); %s stage_done(%d);" % (
-            rel.number, unlock, rel.number, back.number, locks.take(program, back, [])[1], back.number),
-            acq.thread: "stage_turn(%d); %s %s stage_done(%d);" % (acq.number, lock, unlock, again.number)}
-        return "a lock handed to and fro", parts
+        # The waker waits for the lock, which the waiter gives back some time after.
+        parts = {waiter: "stage_turn(%d); stage_done(%d); stage_wait(%d); %s stage_turn(%d); %s stage_done(%d);" % (
+            rel.number, rel.number, rel.number, unlock, back.number, locks.take(program, back, [])[1], back.number),
+            acq.thread: "stage_turn(%d); stage_flag(%d); %s %s stage_done(%d);" % (acq.number, rel.number, lock, unlock, again.number)}
+        return "a lock that another thread waits for", parts
     name, waits, wakes, words = found
     program.split_wait(rel, back)
-    plain_lock = {"mutex": "pthread_mutex_lock(&$m);", "mtx": "mtx_lock(&$m);", "std": "$m.lock();"}[
-        next(one for one in ("mutex", "mtx", "std") if one in program.locks[meeting.target].traits)]
     fill = lambda text: string.Template(text).substitute(words)
     parts = {waiter: "stage_turn(%d); stage_done(%d); { %s } stage_turn(%d); stage_done(%d);" % (
         rel.number, rel.number, fill(waits), back.number, back.number),
         acq.thread: "stage_turn(%d); %s stage_flag(%d); %s %s stage_done(%d);" % (
-            acq.number, fill(plain_lock), rel.number, fill(wakes), unlock, again.number)}
+            acq.number, lock, rel.number, fill(wakes), unlock, again.number)}
     return name, parts

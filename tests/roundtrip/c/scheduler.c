@@ -110,6 +110,11 @@ void *stage_source(void) { return source + 8; }
 void *stage_scratch(void) { return scratch + 8; }
 void stage_flag(int number) { flags[number] = 1; }
 int stage_flagged(int number) { return flags[number]; }
+void stage_wait(int number) {
+    const struct timespec some_time = {0, 20000};
+    while (!flags[number]) syscall(SYS_sched_yield);
+    nanosleep(&some_time, NULL);
+}
 long stage_peek(const volatile void *at, size_t size) {
     long value = 0;
     memcpy(&value, (const void *)at, size < sizeof value ? size : sizeof value);

@@ -50,6 +50,9 @@ LEAVES = forms([
     ("pthread_cancel at any time, at an access",
      "pthread_setcanceltype(PTHREAD_CANCEL_ASYNCHRONOUS, 0); pthread_cancel(pthread_self()); for (;;) stage_use(*(volatile char *)stage_source());"),
 ])
+#: How main ends the program within its blocks.
+EXITS = forms([("exit", "exit(0);", "", 2), ("_exit", "_exit(0);"), ("_Exit", "_Exit(0);"), ("quick_exit", "quick_exit(0);"),
+               ("exit_group", "syscall(SYS_exit_group, 0);"), ("pthread_exit of main", "pthread_exit(0);")])
 #: Acts without an event.
 NOTHING = forms([
     ("malloc and free", "free(malloc((size_t)stage_any()));"), ("sched_yield", "sched_yield();"), ("fence", "__atomic_thread_fence(__ATOMIC_SEQ_CST);"),
@@ -84,6 +87,9 @@ def join(program, step):
 
 
 def leave(program, thread):
+    """Returns the text by which a thread, or main with the program, ends within its blocks."""
+    if thread == 1:
+        return "stage_finish(%d); %s" % (len(program.trace.steps), program.choose(EXITS, ())[1])
     return program.choose(LEAVES, program.starts[thread].traits.split())[1]
 
 
