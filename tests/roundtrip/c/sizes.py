@@ -1,8 +1,8 @@
 """Bytes that programs in C and C++ access in several widths: which names the log has for each access.
 
-A thing of the kind "bytes" is 24 bytes, whose address 16 divides. Each step of it, a "touch", is a form of this module. Its events are
-exact: each access to a part has the names that docs/logging-events.md promises (Sizes), by `Sizes` or by AERODROME_GRAIN. In a text,
-$at is the address of the part, $n its bytes, $t a type of so many, $whole the address of the bytes, and $i their number.
+A thing of the kind "bytes" is 24 bytes at an address that 16 divides. Each step of it, a "touch", is a form of this module, and its
+events are exact: the class Sizes says which variables there are, as docs/logging-events.md promises, or AERODROME_GRAIN does. In a
+text, $at is the address of the part, $n its bytes, $t a type of so many, $whole the address of the thing, and $i its number.
 """
 from collections import namedtuple
 
