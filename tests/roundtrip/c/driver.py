@@ -19,6 +19,21 @@ HANDED = re.compile(r"aerodrome-log: \S+: a thread unlocks the mutex that anothe
 COMPILERS = {"gcc": {"AERODROME_CC": "gcc", "AERODROME_CXX": "g++"}, "clang": {"AERODROME_CC": "clang", "AERODROME_CXX": "clang++"}}
 
 
+#: The forms that access all bytes of a variable.
+WHOLE = re.compile(r"(__builtin_)?mem(cpy|move|set)|mempcpy|bcopy|bzero|strncpy|structure = (\*p|local|\{)|local = structure")
+
+
+class CComparison(compare.Comparison):
+    """Also compares that an access to all bytes of a variable is logged for each eight of them."""
+
+    def compare_accesses(self, group, accesses, lines):
+        super().compare_accesses(group, accesses, lines)
+        for step in group.steps if WHOLE.match(group.how) and not self.program.grain else ():
+            missing = self.names.lacking(step, lines) if step.target in self.variables else None
+            if missing is not None:
+                self.differ("bytes missing", step, "all of %s" % step.target, "none of those from byte %d" % missing)
+
+
 class Choice:
     """How the program of a seed is compiled. What the options leave open is the seed's."""
 
@@ -108,7 +123,7 @@ def differences_of(options, seed, folder, scheduler):
     symbols = names.symbols_of(folder + "/program", program.left_out("a static local called like its function"))
     marked, plain = [names.Names(program, "%s/%s.table" % (folder, name), symbols) for name in ("marked", "plain")]
     lines = list(compare.lines_of(folder + "/marked.log"))
-    comparison = compare.Comparison(trace, program, compare.windows_of(lines, marked.step_of_mark), marked)
+    comparison = CComparison(trace, program, compare.windows_of(lines, marked.step_of_mark), marked)
     found = comparison.run()
     found += driver.compare_verdicts(options.checker, folder + "/trace.std", folder + "/marked.log", program, comparison)
     return found or same_without_marks(program, lines, list(compare.lines_of(folder + "/plain.log")), marked, plain)

@@ -105,6 +105,17 @@ class Names:
                         found |= {(line.name, operation) for at in self.addresses(line.name) if first <= at < place.start}
         return found
 
+    def lacking(self, step, lines):
+        """Returns the first byte of a variable that an access to all of it doesn't have, of each eight bytes, or None."""
+        number = self.program.variables[step.target].number
+        mine = [line for line in lines if line.thread == step.thread and line.operation == step.operation and line.name]
+        found = {at >> 3 for line in mine for at in self.addresses(line.name)}
+        for place in self.places:
+            if place.kind == "x" and place.number == number and place.first <= step.number <= place.last:
+                missing = [at for at in range(place.start >> 3, (place.start + place.size + 7) >> 3) if at not in found]
+                return max(0, (missing[0] << 3) - place.start) if missing else None
+        return None
+
     def lasting(self):
         """Keeps only the places that last from the first step to the last, at any time. Names are looked up anew.
 

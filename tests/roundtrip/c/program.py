@@ -365,8 +365,9 @@ def meeting_of(program, meeting):
     parts = {}
     for thread in {step.thread for step in meeting.steps}:
         arrive, leave = [step.number for step in meeting.steps if step.thread == thread]
-        # The first one makes the barrier anew for this meeting.
-        ready = "pthread_barrier_init(&%s, 0, %d); " % (it.words["k"], words["count"]) if arrive == meeting.steps[0].number else ""
+        # The first one makes the barrier anew for this meeting. Each other one comes once those before it are in the barrier.
+        place = [step.number for step in meeting.steps].index(arrive)
+        ready = ("stage_arrived(&%s, %d); " if place else "pthread_barrier_init(&%s, 0, %d); ") % (it.words["k"], place or words["count"])
         parts[thread] = "stage_turn(%d); %sstage_done(%d); %s stage_turn(%d); stage_done(%d);" % (arrive, ready, arrive, text, leave, leave)
     return how, parts
 

@@ -110,6 +110,10 @@ void *stage_source(void) { return source + 8; }
 void *stage_scratch(void) { return scratch + 8; }
 void stage_flag(int number) { flags[number] = 1; }
 int stage_flagged(int number) { return flags[number]; }
+/* (the C library counts them in the first bytes of a barrier) */
+void stage_arrived(const volatile void *barrier, unsigned count) {
+    while (*(const volatile unsigned *)barrier < count) syscall(SYS_sched_yield);
+}
 void stage_wait(int number) {
     const struct timespec some_time = {0, 20000};
     while (!flags[number]) syscall(SYS_sched_yield);

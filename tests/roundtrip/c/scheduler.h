@@ -26,6 +26,7 @@ void *stage_stack(int thread);       /* 128 KiB for the thread's stack */
 char *stage_text(void *at, size_t length);  /* puts a text of that length there, without an event, and returns its address */
 void stage_flag(int number);         /* sets a flag, without an event */
 int stage_flagged(int number);
+void stage_arrived(const volatile void *barrier, unsigned count);   /* waits until so many threads are in the barrier */
 void stage_wait(int number);         /* waits for the flag, and until what its thread calls next is under way */
 void stage_unwind(void);             /* looks at the stack, as an exception does */
 void stage_in_signal(void (*call)(void));
