@@ -170,7 +170,8 @@ class Trace:
         for name in self.things.get("handed", ()):
             if self.filled.get(name) == [thread]:
                 self.add_handed(thread, name)
-        if not any(step.thread == thread for step in self.steps):
+        quiet = ("nop", "touch", "take") if "bytes" in self.things else ()
+        if not any(step.thread == thread and step.operation not in quiet for step in self.steps):
             # Without an event, a fork and a join in one block would be no cycle, and with the scheduler's events they would.
             self.add(thread, "r", self.some_variable())
         may_leave = "exit" in self.features if thread != 1 else "exit of main" in self.features

@@ -6,7 +6,7 @@ from concurrent.futures import ThreadPoolExecutor
 
 import compare
 import driver
-from c import names
+from c import names, threads
 from c.program import CProgram
 from traces import Trace
 
@@ -99,8 +99,8 @@ def compiled(choice, program, folder, scheduler):
 def run_once(choice, program, folder, marked):
     """Runs a program under the logger, and returns the differences if it fails or says something else than it has to."""
     name = "marked" if marked else "plain"
-    settings = dict(choice.settings, AERODROME_LOG="%s/%s.log" % (folder, name), AERODROME_BLOCKS="-aside_*", STAGE_TABLE="%s/%s.table" % (folder, name),
-                    STAGE_LIBRARY=folder + "/library.so")
+    settings = dict(choice.settings, AERODROME_LOG="%s/%s.log" % (folder, name), STAGE_TABLE="%s/%s.table" % (folder, name),
+                    AERODROME_BLOCKS="-" + ",".join(["aside_*"] + threads.beside(program)), STAGE_LIBRARY=folder + "/library.so")
     if marked:
         settings["STAGE_MARKS"] = "1"
     status, _, said = driver.call([folder + "/program"], settings)

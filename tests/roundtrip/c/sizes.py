@@ -20,12 +20,12 @@ typedef unsigned long part8 __attribute__((may_alias));
 typedef int part16 __attribute__((vector_size(16), may_alias));"""
 
 #: Where the bytes are: what stands outside of functions, and what main does first. (Memory is renewed by 16 bytes, so no variable lies
-#: in the 32 bytes of a place.)
+#: in the 32 bytes of a place. Constructors of global objects have accessed the stack before, in sizes of their own.)
 Where = namedtuple("Where", "name declared born traits")
 DECLARED, BORN = "char $k[32] __attribute__((aligned(16)));", "stage_bytes($i, $k);"
 PLACES = [
     Where("a global", DECLARED, BORN, ""), Where("a static", "static " + DECLARED, BORN, ""),
-    Where("main's stack", "", DECLARED + " " + BORN, ""), Where("a thread-local of main", "static __thread " + DECLARED, BORN, ""),
+    Where("main's stack", "", DECLARED + " AnnotateNewMemory(__FILE__, __LINE__, $k, 32); " + BORN, ""), Where("a thread-local of main", "static __thread " + DECLARED, BORN, ""),
     Where("heap", "", "stage_bytes($i, malloc(24));", "heap"),
 ]
 

@@ -24,8 +24,8 @@ STARTS = [
           POSIX[1].replace("void *run", "int run"), "c11", "", 1),
     of_class("std::thread", "thread$t = std::thread(run$t);"),
     of_class("std::thread with an argument", "thread$t = std::thread(run$t, 3);", parameter="int"),
-    Start("std::thread of a lambda", "static void aside_run$t(); static std::thread thread$t;", "thread$t = std::thread([] { aside_run$t(); });",
-          "static void aside_run$t() {\n    $body\n}", "std::thread", "c++ -exits", 1),
+    Start("std::thread of a lambda", "static void beside_run$t(); static std::thread thread$t;", "thread$t = std::thread([] { beside_run$t(); });",
+          "static void beside_run$t() {\n    $body\n}", "std::thread", "c++ -exits", 1),
     of_class("std::jthread", "thread$t = std::jthread(run$t);", "std::jthread", needs="c++20 -exits"),
     of_class("std::async", "thread$t = std::async(std::launch::async, run$t);", "std::future<void>"),
 ]
@@ -91,6 +91,11 @@ def leave(program, thread):
     if thread == 1:
         return "stage_finish(%d); %s" % (len(program.trace.steps), program.choose(EXITS, ())[1])
     return program.choose(LEAVES, program.starts[thread].traits.split())[1]
+
+
+def beside(program):
+    """Returns the functions that threads call at their start. (In a function whose name begins with aside_, a lambda would be no block.)"""
+    return ["beside_run%d" % thread for thread, start in program.starts.items() if "beside_run" in start.function]
 
 
 def function_of(start, thread, body):

@@ -27,6 +27,7 @@ FAMILIES = {"scalar": (5, SCALARS, "%s"), "structure": (5, STRUCTURES, "%s"), "b
 Place = namedtuple("Place", "name declared direct born needs weight")
 
 OF_LIBRARY, OF_LOADED = "a library's global", "a global of a library that dlopen loads"
+OF_BOTH = "a static whose name a library has too"
 PUT = "stage_put($n, &%s, sizeof($type));"
 LATE = "late -awkward -atomic -object"
 PLACES = [
@@ -47,6 +48,7 @@ PLACES = [
           "stage_put($n, (char *)&$g + 1, sizeof($type));", "-awkward -atomic -object", 1),
     Place(OF_LIBRARY, "extern $extern $type $g;", "$g", PUT % "$g", "library -object", 3),
     Place(OF_LOADED, "", "", 'stage_put($n, dlsym(loaded, "$g"), sizeof($type));', "dlopen -object", 3),
+    Place(OF_BOTH, "static $type $g;", "$g", PUT % "$g", "library|dlopen -object", 1),
     Place("a vector", "std::vector<$type> $g(4);", "$g[$index]", PUT % "$g[$i]", "c++ -awkward -atomic -boolean -volatile -object", 1),
     Place("a std::array", "std::array<$type, 4> $g;", "$g[$index]", PUT % "$g[$i]", "c++ -object", 1),
     Place("a member of a class", "struct S$n { static $type f; }; $type S$n::f;", "S$n::f", PUT % "S$n::f", "c++", 1),
