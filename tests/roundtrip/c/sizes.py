@@ -27,6 +27,7 @@ PLACES = [
     Where("a global", DECLARED, BORN, ""), Where("a static", "static " + DECLARED, BORN, ""),
     Where("main's stack", "", DECLARED + " AnnotateNewMemory(__FILE__, __LINE__, $k, 32); " + BORN, ""), Where("a thread-local of main", "static __thread " + DECLARED, BORN, ""),
     Where("heap", "", "stage_bytes($i, malloc(24));", "heap"),
+    Where("mmap", "", "stage_bytes($i, mmap(0, 4096, PROT_READ | PROT_WRITE, MAP_PRIVATE | MAP_ANONYMOUS, -1, 0));", "mapped"),
 ]
 
 #: Accesses to 1, 2, 4 or 8 bytes at once.
@@ -78,6 +79,10 @@ NEW = forms([
     ("AnnotateNewMemory", "AnnotateNewMemory(__FILE__, __LINE__, $whole, 24); stage_bytes($i, $whole);"),
     ("free and malloc", "free($whole); stage_bytes($i, malloc(24));", "heap", 2),
     ("free and calloc", "free($whole); stage_bytes($i, calloc(1, 24));", "heap"),
+    ("mmap in its place", "if (mmap($whole, 4096, PROT_READ | PROT_WRITE, MAP_PRIVATE | MAP_ANONYMOUS | MAP_FIXED, -1, 0) != $whole) abort(); "
+     "stage_bytes($i, $whole);", "mapped", 2),
+    ("mremap", "{ void *p = mmap(0, 4096, PROT_NONE, MAP_PRIVATE | MAP_ANONYMOUS, -1, 0); "
+     "if (mremap($whole, 4096, 4096, MREMAP_MAYMOVE | MREMAP_FIXED, p) != p) abort(); stage_bytes($i, p); }", "mapped", 2),
 ])
 SAME = forms([("realloc in place", "if (realloc($whole, 24) != $whole) abort();"), ("realloc that shrinks", "if (realloc($whole, 20) != $whole) abort();")])
 #: A realloc that moves them, as so many bytes are nowhere behind them: $room grows by the time.
