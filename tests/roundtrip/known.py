@@ -16,8 +16,9 @@ KNOWN = [
     Known("c", "", r"an always_inline function"),
     # The same: "and with clang if it has more than 16 bytes or 3, 5, 6 or 7".
     Known("c", "clang", r"structure passed by value|structure = call|structure returned"),
-    # The same: "with clang, accesses to a `long double` and to vectors of 32 bytes and more".
-    Known("c", "clang", r"type (long double|vector32)$"),
+    # The same: "with clang, accesses to a `long double`, to vectors of 32 bytes and more, and by a function to fields and elements of its
+    # local variables".
+    Known("c", "clang", r"type (long double|vector32)$|an element of a local variable"),
     # The same: "in std::map, std::set and std::list, the writes of the links between elements".
     Known("c", "", r"type std::(map|list)<"),
     # docs/java-events.md, Permits: "Releases that were read are used up: a later acquire doesn't read them again, except for permits

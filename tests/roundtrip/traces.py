@@ -266,6 +266,12 @@ class Trace:
         here = [thread] + others[:self.random.randint(1, 2)]
         self.meet("barrier", name, [(one, "arrive") for one in here] + [(one, "leave") for one in here])
 
+    def add_frame(self, thread, name):
+        """A thread is in a function while another one accesses what lies on the stack there."""
+        if self.others(thread):
+            other = self.random.choice(self.others(thread))
+            self.meet("frame", name, [(thread, "open"), (other, "look"), (thread, "close")])
+
     def add_message(self, thread, name):
         """A thread waits for another one, which gives it a message by hand."""
         if self.others(thread):
@@ -286,9 +292,9 @@ class Trace:
 
 #: The kinds of things beside variables and locks, and what adds an operation of them. The operations are post and take of a
 #: semaphore, put and get of a queue, down and await of a latch, once, touch of bytes, lock and unlock of a mutex that threads hand on,
-#: before and after of an order that is said, and in meetings arrive, leave, send and receive.
+#: before and after of an order that is said, and in meetings arrive, leave, send, receive, open, look and close.
 MORE = {"semaphore": Trace.add_semaphore, "once": Trace.add_once, "queue": Trace.add_queue, "latch": Trace.add_latch,
-        "bytes": Trace.add_touch, "handed": Trace.add_handed, "sync": Trace.add_sync,
+        "bytes": Trace.add_touch, "handed": Trace.add_handed, "sync": Trace.add_sync, "frame": Trace.add_frame,
         "barrier": Trace.add_barrier, "message": Trace.add_message, "condition": Trace.add_condition}
 
 OPERATIONS = [(12, Trace.add_begin), (10, Trace.add_end), (4, Trace.add_fork), (2, Trace.add_exit), (2, Trace.add_join),

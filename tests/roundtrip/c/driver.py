@@ -12,7 +12,7 @@ from traces import Trace
 
 FLAGS = ["-O2", "-O0", "-O1", "-O3", "-Os", "-O2 -D_FORTIFY_SOURCE=2", "-O2 -flto", "-O2 -fPIC"]
 STANDARDS = {"c": ["17", "11"], "c++": ["17", "20", "11", "14", "20", "17"]}
-FEATURES = ("twice", "semaphore", "spare", "once", "barrier", "condition", "bytes", "handed", "sync")
+FEATURES = ("twice", "semaphore", "spare", "once", "barrier", "condition", "bytes", "handed", "sync", "frame")
 SPLITS = ["waits", "threads", "waits,threads"]
 #: What the logger says, once, if a thread unlocks a mutex that another one has locked.
 HANDED = re.compile(r"aerodrome-log: \S+: a thread unlocks the mutex that another one has locked: the log has w\(\.\.handed\) for it from here on\n")
@@ -24,7 +24,14 @@ WHOLE = re.compile(r"(__builtin_)?mem(cpy|move|set)|mempcpy|bcopy|bzero|strncpy|
 
 
 class CComparison(compare.Comparison):
-    """Also compares that an access to all bytes of a variable is logged for each eight of them."""
+    """Also compares that an access to all bytes of a variable is logged for each eight of them. One in a frame may have several lines."""
+
+    def compare_ordered(self, group, ordered):
+        meeting = group.steps[0].meeting
+        if meeting and meeting.kind == "frame":
+            events = [(line.thread, line.operation, thing) for line, thing in ordered]
+            ordered = [one for at, one in enumerate(ordered) if not at or events[at] != events[at - 1]]
+        super().compare_ordered(group, ordered)
 
     def compare_accesses(self, group, accesses, lines):
         super().compare_accesses(group, accesses, lines)

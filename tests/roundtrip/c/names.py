@@ -3,7 +3,7 @@ import re
 import subprocess
 from collections import namedtuple
 
-from c.sizes import part_name
+from c.sizes import FRAME, part_name
 
 NAME = re.compile(r"^(?:0x(?P<address>[0-9a-f]+)|(?P<symbol>.*?)(?:\+(?P<offset>\d+))?(?:@(?P<base>[0-9a-f]+))?)(?:\.(?P<times>\d+))?$")
 PREFIXES = {"rw.": "l", "sem.": "semaphore", "bar.": "barrier", "once.": "once", "sync.": "sync"}
@@ -87,6 +87,8 @@ class Names:
         """Returns the name of a part of bytes. Each part has one name in the log as long as it is there, and no other one has it."""
         part = part_name("bytes%d" % place.number, place.turn, address - place.start)
         is_known = self.name_of_part.setdefault(part, name) == name and self.part_of_name.setdefault(name, part) == part
+        if is_known and place.number >= FRAME:
+            return part_name("bytes%d" % place.number, place.turn, None)
         return part if is_known or self.is_lasting else "%s, which isn't %s" % (name, part)
 
     def may_read(self, variable):

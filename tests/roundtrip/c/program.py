@@ -62,7 +62,8 @@ class CProgram(Program):
 
     def __init__(self, trace, random, traits, limits=False, objects=0, splits=(), grain=0):
         super().__init__(trace, random, traits, limits)
-        self.objects, self.splits, self.grain, self.rooms, self.open_at, self.touches = objects, splits, grain, 1 << 20, {}, {}
+        self.objects, self.splits, self.grain, self.rooms, self.open_at = objects, splits, grain, 1 << 20, {}
+        self.touches, self.frames, self.frames_met = {}, {}, {}
         self.types, self.globals, self.prototypes, self.bodies, self.start, self.library, self.of_library = [], [], [], [], [], [], []
         self.labels, self.common_bodies = {}, {}
         self.first_permits = trace.first_permits
@@ -155,6 +156,11 @@ def events_of(trace, program):
         elif step.operation == "touch":
             program.touches[step.number] = sizes.touch(program, program.bytes[step.target])
             result[step.number] = program.touches[step.number].events
+        elif step.meeting and step.meeting.kind == "frame":
+            if step.operation == "open":
+                how, parts, events = sizes.frame(program, step.meeting)
+                program.frames_met[id(step.meeting)] = how, parts
+                result.update(events)
         elif step.operation == "once":
             result[step.number] = [("r" if step.target in done else "w", "once." + step.target)]
             done.add(step.target)
@@ -361,6 +367,8 @@ def meeting_of(program, meeting):
     """
     if meeting.kind == "condition":
         return condition_of(program, meeting)
+    if meeting.kind == "frame":
+        return program.frames_met[id(meeting)]
     it = program.others[meeting.target]
     words = dict(it.words, count=len(meeting.steps) // 2)
     how, text = program.choose(it.kind.operations["arrive"], (), words)

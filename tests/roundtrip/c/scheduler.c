@@ -77,6 +77,7 @@ void stage_bytes(int number, const volatile void *at) {
     add_place("bytes", number, (void *)at, 24);
     now_at[1900 + number] = (void *)at;
 }
+void stage_gone(int number) { end_place("bytes", number); }
 void stage_thing(const char *kind, int number, const volatile void *at) { add_place(kind, number, (void *)at, 1); }
 void stage_finish(int steps) {
     const char *path = getenv("STAGE_TABLE");

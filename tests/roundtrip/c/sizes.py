@@ -92,6 +92,16 @@ MOVES = forms([
 ])
 
 
+#: Frames of functions: what another thread does with their bytes, which have the numbers from FRAME on.
+FRAME = 50
+LOOKS = forms([("read", "stage_use((long)*(part4 *)stage_at($at));", "r"), ("write", "*(part4 *)stage_at($at) = 2;", "w"),
+               ("memcpy out", "memcpy(stage_scratch(), stage_at($at), stage_same(4));", "r")])
+OPENS = forms([("an element of a local variable = constant", "*(part4 *)room = 1;"), ("*p = constant", "*(part4 *)stage_at($at) = 1;")])
+INSIDE = ("static __attribute__((noinline)) void $f(void) { $room stage_bytes($i, room); $write stage_done($open); "
+          "stage_turn($close); stage_gone($i); stage_done($close); }")
+ROOMS = ["char room[32] __attribute__((aligned(16)));", "char room[64] __attribute__((aligned(16)));"]
+
+
 class Sizes:
     """The variables of eight bytes, each by its first byte and its end. `is_copied` says that only copies have accessed all eight."""
 
@@ -157,7 +167,8 @@ class Bytes(Thing):
 
 
 def part_name(name, generation, first):
-    return "%s_%d+%d" % (name, generation, first)
+    """Returns the name of the variable that begins at a byte. (In a frame, earlier ones say which variables there are: it is None.)"""
+    return "%s_%d" % (name, generation) if first is None else "%s_%d+%d" % (name, generation, first)
 
 
 def make(program, number, name, grain):
@@ -259,3 +270,19 @@ def moved(program, it):
     events = it.events("r", "copy", 0, ROOM)
     it.renew()
     return Touch("%s that moves" % form.name, text, events + it.events("w", "copy", 0, ROOM))
+
+
+def frame(program, meeting):
+    """Draws a meeting of two threads in a frame: its name, the text of each thread, and the events of its steps."""
+    opens, looks, closes = meeting.steps
+    number = FRAME + int(meeting.target[len("frame"):])
+    program.frames[number] = program.frames.get(number, -1) + 1
+    part, form = part_name("bytes%d" % number, program.frames[number], None), program.draw(LOOKS, ("r", "w"))
+    name = program.new_name("aside_frame")
+    words = {"f": name, "room": program.random.choice(ROOMS), "i": number, "at": PLACE + number, "open": opens.number, "close": closes.number}
+    program.prototypes.append("static void %s(void);" % name)
+    how, words["write"] = program.choose(OPENS, (), words)
+    program.bodies.append(program.fill(INSIDE, words))
+    parts = {opens.thread: "stage_turn(%d); %s();" % (opens.number, name),
+             looks.thread: "stage_turn(%d); %s stage_done(%d);" % (looks.number, program.fill(form.text, words), looks.number)}
+    return "%s and %s of a frame" % (how, form.name), parts, {opens.number: [("w", part)], looks.number: [(form.needs, part)], closes.number: []}
