@@ -127,11 +127,10 @@ class Sizes:
         found = self.of(first, end)
         low, high = found[0][0], found[-1][1]
         if is_write:
-            cuts = {low, first, end, high}
             for one in found:
                 self.variables.remove(one)
-                inner = sorted({one[0], one[1]} | {cut for cut in cuts if one[0] < cut < one[1]})
-                self.variables += zip(inner, inner[1:])
+                edges = sorted(set(one) | {cut for cut in (first, end) if one[0] < cut < one[1]})
+                self.variables += zip(edges, edges[1:])
         return [one[0] for one in self.of(low, high)]
 
     def copy(self, first, end):
@@ -183,23 +182,23 @@ def make(program, number, name, grain):
 
 def touch(program, it):
     """Draws a step of the bytes."""
-    kinds = [(one, 10), (wide, 1), (copied, 8), (appended, 2), (moved_within, 1), (renewed, 1), (unchanged, 1), (moved, 1)]
+    kinds = [(single, 10), (wide, 1), (copied, 8), (appended, 2), (moved_within, 1), (renewed, 1), (unchanged, 1), (moved, 1)]
     while True:
         done = program.random.choices([kind for kind, _ in kinds], [weight for _, weight in kinds])[0](program, it)
         if done:
             return Touch("%s in %s" % (done.how, it.where.name), done.text, done.events)
 
 
-def filled(program, it, table, traits=(), **words):
-    """Returns the form that is drawn, and its text."""
+def filled(program, it, table, traits=(), first=0, **words):
+    """Returns the form that is drawn, and its text for the part that begins at a byte."""
     whole = "stage_at(%d)" % (PLACE + it.number)
     form = program.draw(table, it.traits | set(traits))
-    first = words.pop("first", 0)
     words.update(whole=whole, i=it.number, at="((char *)%s + %d)" % (whole, first))
     return form, program.fill(form.text, words)
 
 
-def one(program, it):
+def single(program, it):
+    """Accesses 1, 2, 4 or 8 bytes at once."""
     width = program.random.choice([1, 2, 4, 4, 8, 8])
     first = program.random.randrange(0, ROOM, width)
     form, text = filled(program, it, ONE, (program.random.choice("rw"),), first=first, n=width, t="part%d" % width)
@@ -207,6 +206,7 @@ def one(program, it):
 
 
 def wide(program, it):
+    """Accesses the first 16 bytes at once."""
     form, text = filled(program, it, WIDE, (program.random.choice("rw"),))
     return Touch(form.name, text, it.events(form.needs, "access", 0, 16))
 
@@ -219,6 +219,7 @@ def range_of(program):
 
 
 def copied(program, it):
+    """Copies to a part or from it."""
     first, size = range_of(program)
     traits = {program.random.choice("rw")} | ({"odd"} if size not in (1, 2, 4, 8) else set())
     form, text = filled(program, it, COPIES, traits | {"cuts"}, first=first, n=size)
@@ -227,6 +228,7 @@ def copied(program, it):
 
 
 def appended(program, it):
+    """Appends a text to that of a part. There may be no room for it."""
     first, size = range_of(program)
     end = first + size
     if end >= ROOM - 1:
@@ -238,6 +240,7 @@ def appended(program, it):
 
 
 def moved_within(program, it):
+    """Copies one part to another one, which may overlap it."""
     (first, size), source = range_of(program), program.random.randint(0, ROOM)
     source = min(source, ROOM - size)
     text = program.fill("{ char *p = (char *)stage_at($at); memmove(p + $to, p + stage_same($source), stage_same($size)); }",
@@ -247,6 +250,7 @@ def moved_within(program, it):
 
 
 def renewed(program, it):
+    """Makes the bytes new variables."""
     form, text = filled(program, it, NEW)
     it.renew()
     if "heap" in form.needs:
@@ -255,6 +259,7 @@ def renewed(program, it):
 
 
 def unchanged(program, it):
+    """Does what leaves them as they are, if they are of the heap."""
     if not {"heap", "small"} <= it.traits:
         return None
     form, text = filled(program, it, SAME)
@@ -262,6 +267,7 @@ def unchanged(program, it):
 
 
 def moved(program, it):
+    """Has realloc move them, if they are of the heap and haven't moved."""
     if not {"heap", "small"} <= it.traits or program.rooms > 1 << 24:
         return None
     form, text = filled(program, it, MOVES, room=program.rooms)
