@@ -152,7 +152,10 @@ class Trace:
 
     def add_release(self, thread):
         if self.held_by(thread):
-            self.release(thread, self.random.choice(self.held_by(thread)))
+            step = self.release(thread, self.random.choice(self.held_by(thread)))
+            if "bytes" in self.things and not self.held[step.target] and step.operation == "rel" and self.random.random() < 0.15:
+                # (as a wait that runs out does)
+                self.acquire(thread, step.target, "acq")
 
     def release(self, thread, lock):
         acquire = [one for one in self.held[lock] if one.thread == thread][-1]
