@@ -231,7 +231,7 @@ VALUES = {"vector16": "(vector16){1, 2, 3, (int)stage_any()}", "vector32": "(vec
 def variable_at(program, it, in_library=False):
     """Returns an expression for the variable: its name, or by its address."""
     if it.place.name == "a packed field":
-        return "((struct S%d *)((char *)stage_at(%d) - 1))->f" % (it.number, it.number) if program.chance(0.5) else it.direct
+        return "((struct P%d *)stage_at(%d))->f" % (it.number, it.number) if in_library or program.chance(0.5) else it.direct
     if not it.direct or (in_library and it.place.name not in (OF_LIBRARY, OF_LOADED)) or program.chance(0.3):
         return "(*(%s *)stage_at(%d))" % (it.typedef, it.number)
     return it.direct

@@ -111,6 +111,8 @@ class CProgram(Program):
         it.direct, it.born = fill(it.place.direct), fill(it.place.born)
         if it.place.name in (variables.OF_LIBRARY, variables.OF_LOADED):
             self.of_library.append(('extern "C" { %s %s; }' if "c++" in self.traits else "%s %s;") % (it.typedef, it.words["g"]))
+        if it.place.name == "a packed field":
+            self.types.append("struct __attribute__((packed)) P%d { %s f; };" % (number, it.typedef))
         if it.place.name == variables.OF_BOTH:
             self.of_library.append("static __attribute__((used)) %s %s;" % (it.typedef, it.words["g"]))
         if not it.is_late():
