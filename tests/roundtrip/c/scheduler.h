@@ -34,7 +34,7 @@ void stage_in_signal(void (*call)(void));
 void stage_in_sort(void (*call)(void));
 
 #define EACH_SIZE(f) f(1) f(2) f(3) f(4) f(5) f(7) f(8) f(12) f(13) f(16) f(17) f(24) f(31) f(32) f(33) f(64) f(100) f(128) \
-    f(256) f(1000) f(1024) f(4096)
+    f(256) f(1000) f(1024) f(4096) f(6000)
 #define EACH_COUNT(f) f(1) f(2) f(3) f(4) f(7) f(16) f(64) f(1024)
 #define CALLS(type) struct type stage_make_##type(void); void stage_take_##type(struct type);
 #define BYTES(n) struct bytes##n { char b[n]; }; CALLS(bytes##n)

@@ -3,7 +3,7 @@ from collections import namedtuple
 
 from program import Thing, fits
 
-SIZES = [1, 2, 3, 4, 5, 7, 8, 12, 13, 16, 17, 24, 31, 32, 33, 64, 100, 128, 256, 1000, 1024, 4096]
+SIZES = [1, 2, 3, 4, 5, 7, 8, 12, 13, 16, 17, 24, 31, 32, 33, 64, 100, 128, 256, 1000, 1024, 4096, 6000]
 COUNTS = [1, 2, 3, 4, 7, 16, 64, 1024]
 
 #: A type: its name, its bytes and its traits. `array` is a structure of one array, `number` what __atomic_ functions take.
@@ -82,7 +82,7 @@ def choose_type(program, it, objects):
         it.object = program.random.choice(objects)
         it.type = Type(it.object.type, it.object.size, "")
     else:
-        most = 256 if program.grain else 4096
+        most = 256 if program.grain else 6000
         it.type = program.random.choice([one for one in FAMILIES[it.family][1] if one.size <= most and not program.left_out("type " + one.name)])
     it.traits = {it.family} | set(it.type.traits.split())
     # These want an alignment of 16 or 32 bytes, which not each place has.
