@@ -113,7 +113,7 @@ READS = forms([
     ("*p", "{ const $type *p = ($type *)$p; $use($real*p); }", "scalar aligned -vector"),
     ("*p by a thread-local p", "near = $v; $use($real*($type *)near);", "scalar aligned -vector"),
     ("vector", "{ $type l = $x; stage_see(&l); }", "vector"),
-    ("elements of a vector", "stage_use($x[0]); stage_use($x[1]); stage_use($x[2]); stage_use($x[3]);", "vector"),
+    ("elements of a vector", "stage_use($x[0]); stage_use($x[1]); stage_use($x[2]); stage_use($x[3]);", "v16"),
     ("_mm_loadu_si128", "{ __m128i l = _mm_loadu_si128((__m128i *)$v); stage_see(&l); }", "v16"),
     ("bit-field", "stage_use($x.a);", "bits"),
     ("if (bit-field)", "if ($x.b) stage_use(1);", "bits"),

@@ -110,7 +110,8 @@ def choose_place(program, it):
         it.place = late[0]
     if it.place.name != "a packed field":
         it.traits.add("aligned")
-    it.part = random.randrange(max(1, it.type.size))
+    # (no field has the other bytes of a struct mixed)
+    it.part = random.choice([0, 3, 4, 8, 15, 16, 21]) if "mixed" in it.traits else random.randrange(max(1, it.type.size))
     at = random.randrange(4)
     it.free, new = "free", random.choice(ALLOCATIONS + (["operator new(sizeof($type))"] if "c++" in program.traits else []))
     if new.startswith("operator"):
