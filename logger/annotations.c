@@ -26,13 +26,22 @@ EXPORT void AnnotateRWLockAcquired(AT, const volatile void *lock, long is_writer
 EXPORT void AnnotateRWLockReleased(AT, const volatile void *lock, long is_writer UNUSED) {
     aero_releasing((uintptr_t)lock, HERE);
 }
-/* What was never allocated, such as a thread-local variable of main's, has a name that the first allocation there keeps. */
+/* What was never allocated and is no global variable, such as a thread-local one of main's, has the name that its first allocation has. */
+static void renew_what_is_first(uintptr_t from, uintptr_t to) {
+    const uintptr_t unit = 16;
+    if (!aero_enter()) return;
+    aero_lock();
+    for (uintptr_t at = from & -unit, low, high; at < to; at += unit) {
+        aero_symbol_bounds(at, &low, &high);
+        if (!low && aero_generation(at) == 1) aero_renew(at, at + unit);
+    }
+    aero_unlock();
+    aero_leave();
+}
 EXPORT void AnnotateNewMemory(AT, const volatile void *at, long bytes) {
-    const uintptr_t unit = 16, from = (uintptr_t)at, to = from + (uintptr_t)bytes;
     if (bytes <= 0) return;
-    aero_renew(from, to);
-    for (uintptr_t one = from & -unit; one < to; one += unit)
-        if (aero_generation(one) == 1) aero_renew(one, one + unit);
+    aero_renew((uintptr_t)at, (uintptr_t)at + (uintptr_t)bytes);
+    renew_what_is_first((uintptr_t)at, (uintptr_t)at + (uintptr_t)bytes);
 }
 
 /* ---- order */
