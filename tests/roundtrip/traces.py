@@ -198,7 +198,7 @@ class Trace:
     # Operations of MORE.
 
     def add_more(self, thread):
-        kind = self.random.choice(sorted(self.things) + ["nop"])
+        kind = self.random.choice(sorted(self.things) + ["nop"] + (["condition"] * 4 if "bytes" in self.things else []))
         if kind != "nop":
             MORE[kind](self, thread, self.random.choice(self.things[kind]))
 
@@ -284,6 +284,10 @@ class Trace:
     def add_condition(self, thread, name):
         """A thread that holds a lock waits on a condition until another one that takes the lock wakes it."""
         locks = [lock for lock in self.locks if lock not in self.shared and [one.thread for one in self.held[lock]] == [thread]]
+        free = [lock for lock in self.locks if lock not in self.shared and not self.held[lock]] if "bytes" in self.things else []
+        if free and not locks and self.others(thread):
+            locks = [self.random.choice(free)]
+            self.acquire(thread, locks[0], "acq")
         if not locks or not self.others(thread):
             return
         lock, waker = self.random.choice(locks), self.random.choice(self.others(thread))
