@@ -31,6 +31,11 @@ class CComparison(compare.Comparison):
         if meeting and meeting.kind == "frame":
             events = [(line.thread, line.operation, thing) for line, thing in ordered]
             ordered = [one for at, one in enumerate(ordered) if not at or events[at] != events[at - 1]]
+        if meeting and meeting.kind == "condition":
+            # Blocks that a wait has split begin before the lock is had again, at any time.
+            again = [(line, thing) for line, thing in ordered if line.operation == "begin"]
+            ordered = [one for one in ordered if one not in again]
+            ordered[-1:-1] = again
         super().compare_ordered(group, ordered)
 
     def compare_accesses(self, group, accesses, lines):

@@ -127,7 +127,7 @@ CONDITIONS = [
     Condition("condition_variable.wait", "static std::condition_variable $c;", UNIQUE % ("std::mutex", LOOP % "$c.wait(u)"),
               "$c.notify_one();", "std-mutex", 1),
     Condition("condition_variable.wait with a predicate", "static std::condition_variable $c;",
-              UNIQUE % ("std::mutex", "$c.wait(u, [] { return stage_flagged($flag) != 0; });"), "$c.notify_all();", "std-mutex", 1),
+              UNIQUE % ("std::mutex", "$c.wait(u, aside_flag{$flag});"), "$c.notify_all();", "std-mutex", 1),
     Condition("condition_variable_any.wait", "static std::condition_variable_any $c;", LOOP % "$c.wait($m)", "$c.notify_all();", "std", 1),
 ]
 

@@ -135,6 +135,7 @@ class CProgram(Program):
             helpers.append(string.Template(HELPERS).substitute(s=name, kind=name.split()[1]))
         if is_cxx:
             helpers.append("static __attribute__((noinline, unused)) void aside_throws(int a) { if (a) throw 3; }")
+            helpers.append("struct aside_flag { int number; bool operator()() const { return stage_flagged(number) != 0; } };")
         common = blocks.define_common(self)
         functions = [threads.function_of(self.starts[thread], thread, "\n    ".join(lines)) for thread, lines in self.tops.items() if thread != 1]
         has_library = bool(self.of_library or self.library)
