@@ -24,7 +24,19 @@ WHOLE = re.compile(r"(__builtin_)?mem(cpy|move|set)|mempcpy|bcopy|bzero|strncpy|
 
 
 class CComparison(compare.Comparison):
-    """Also compares that an access to all bytes of a variable is logged for each eight of them. One in a frame may have several lines."""
+    """Also compares that each thread has its events between its fork and its join, and that an access to all bytes of a variable is logged
+    for each eight of them. One in a frame may have several lines.
+    """
+
+    def run(self):
+        lines = sorted((line for window in self.windows.values() for line in window), key=lambda line: line.number)
+        super().run()
+        for thread in self.program.starts:
+            mine = [line.number for line in lines if line.thread == thread]
+            at = {line.operation: line.number for line in lines if line.name == "T%d" % thread}
+            if mine and not at.get("fork", 0) < mine[0] <= mine[-1] < at.get("join", float("inf")):
+                self.differ("order of threads", None, "the events of T%d behind its fork and before its join" % thread, at, "threads")
+        return self.differences
 
     def compare_ordered(self, group, ordered):
         meeting = group.steps[0].meeting

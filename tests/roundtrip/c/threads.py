@@ -64,6 +64,7 @@ NOTHING = forms([
     ("AnnotateBenignRaceSized", 'AnnotateBenignRaceSized(__FILE__, __LINE__, stage_source(), 8, "");'),
     ("throw through a function", "try { aside_throws(1); } catch (int) {}", "c++"), ("std::this_thread::yield", "std::this_thread::yield();", "c++"),
 ])
+AT_ONCE = "stage_use(*(volatile char *)stage_source());"
 ENDS = [("return", 4), ("longjmp", 1), ("tail", 3)]
 ENDS_IN_CXX = ENDS + [("throw", 2)]
 
@@ -99,4 +100,5 @@ def beside(program):
 
 
 def function_of(start, thread, body):
-    return string.Template(start.function).substitute(t=thread, body=body)
+    """Returns a thread's function. Its first and its last event wait for no turn: they come between the fork and the join by themselves."""
+    return string.Template(start.function).substitute(t=thread, body="%s\n    %s\n    %s" % (AT_ONCE, body, AT_ONCE))
