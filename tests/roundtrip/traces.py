@@ -198,7 +198,7 @@ class Trace:
     # Operations of MORE.
 
     def add_more(self, thread):
-        kind = self.random.choice(sorted(self.things) + ["nop"] + (["condition"] * 4 if "bytes" in self.things else []))
+        kind = self.random.choice(sorted(self.things) + ["nop"] + (["condition"] * 4 + ["semaphore"] * 3 if "bytes" in self.things else []))
         if kind != "nop":
             MORE[kind](self, thread, self.random.choice(self.things[kind]))
 
@@ -206,10 +206,19 @@ class Trace:
         if self.permits[name] and self.random.random() < 0.5:
             self.permits[name] -= 1
             self.at_first[name] = 0
-            self.add(thread, "take", name)
+            self.add(self.who(thread, name, "take"), "take", name)
         elif self.permits[name] < 4 and ("spare" in self.features or not self.at_first[name]):
             self.permits[name] += 1
-            self.add(thread, "post", name)
+            self.add(self.who(thread, name, "post"), "post", name)
+
+    def who(self, thread, name, operation):
+        """Returns the thread that does an operation: with "spare", the first semaphore has one for each, as long as it is there."""
+        if "spare" not in self.features or not name.endswith("0"):
+            return thread
+        known = self.filled.setdefault(name, {})
+        if known.get(operation) not in self.live:
+            known[operation] = thread
+        return known[operation]
 
     def add_touch(self, thread, name):
         """Accesses a part of bytes."""
