@@ -119,6 +119,7 @@ static const struct known {
     {"syscall.", NOBODY, 0},
     {"internal/poll.", NOBODY, 0},
     {"time.", GENERIC, 0},
+    {"os.Exit", PROGRAM, ENDS_PROGRAM},
     /* What orders only lines of output, or numbers that are drawn. */
     {"log.", PROGRAM, IS_QUIET},
     {"math/rand.(*lockedSource).", PROGRAM, IS_QUIET},

@@ -57,7 +57,8 @@ enum asker {
 enum {
     IS_BLOCK = 1, IS_RUNTIME = 2, IS_LOW = 4, IS_HOOK = 8, IS_SYNC = 16, IS_RACE = 32, IS_MAP = 64, IS_ENTRY = 128,
     IS_ENTRY_LOAD = 256, IS_COND_WAIT = 512, SENDS = 1024, RUNS_TIMERS = 2048, RETURNS_BY_DEFERRED = 4096, PANICS = 8192,
-    IS_LIBRARY = 16384, IS_QUIET = 32768, IS_UNKNOWN = 65536
+    IS_LIBRARY = 16384, IS_QUIET = 32768, IS_UNKNOWN = 65536, ENDS_PROGRAM = 131072,
+    LOADS_OR_STORES = 262144, DELETES = 524288
 };
 /* A return address: the function that it is in, and the function whose source it is of, which may be inlined there. */
 struct code {
