@@ -93,6 +93,8 @@ static const struct known {
     {"sync.(*entry).unexpunge", NOBODY, IS_SYNC},
     {"sync.(*entry).tryExpunge", NOBODY, IS_SYNC},
     {"sync.(*entry).load", GENERIC, IS_SYNC | IS_ENTRY | IS_ENTRY_LOAD},
+    {"sync.(*entry).tryLoadOrStore", GENERIC, IS_SYNC | IS_ENTRY | LOADS_OR_STORES},
+    {"sync.(*entry).delete", GENERIC, IS_SYNC | IS_ENTRY | DELETES},
     {"sync.(*entry).", GENERIC, IS_SYNC | IS_ENTRY},
     {"sync.", NOBODY, IS_SYNC},
     {"runtime.runOneTimer", TIMER_FIRES, 0},

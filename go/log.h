@@ -219,6 +219,7 @@ void aero_leave_by_panic(struct goroutine *t, const struct here *here);
 void aero_symbols_start(void);
 bool aero_has_symbols(void);
 const char *aero_global(word at, word *start, word *end);    /* the global variable that has the byte, or NULL */
+const word *aero_word(const char *variable);   /* where the global variable of that name lies, or NULL */
 bool aero_is_counter(word at);                 /* of go test -cover, and nothing that the program itself has */
 int aero_each_function(bool (*each)(const char *label));     /* until it returns 0 */
 
@@ -273,7 +274,8 @@ void aero_suffixed(struct goroutine *t, const char *operation, word at, const st
 struct atomic {
     word at;
     const struct code *place, *asker;
-    bool writes, is_done;    /* is_done: a compare-and-swap has swapped, a load has found something else than 0 */
+    bool writes, is_load;
+    word found;              /* by a load */
 };
 void aero_atomic(struct goroutine *t, const struct atomic *it);
 
