@@ -48,6 +48,10 @@ class Program:
     def left_out(self, name):
         return not self.limits and known.is_known(self.language, self.traits, name)
 
+    def may_lack(self, step):
+        """Returns whether the log may lack an access, as settings of the logger ask for."""
+        return False
+
     def choose(self, table, traits, words=None):
         """Draws a form from those of the table that fit. Returns its name and its text with these words."""
         form = self.draw(table, traits)

@@ -33,11 +33,13 @@ class Meeting:
 class Trace:
     """A random trace of about `size` steps, with the operations of MORE that `features` names.
 
-    The features "twice" (locks that a thread takes twice) and "exit" (threads that end within blocks) change no list of MORE.
+    The features "twice" (locks that a thread takes twice), "exit" (threads that end within blocks) and "shared condition" (conditions of
+    locks for readers) change no list of MORE.
+    Operations of MORE are drawn `often` times as often as without it, and if that is more than once, then several of a thing at once.
     """
 
-    def __init__(self, random, size, features=()):
-        self.random, self.size, self.features = random, size, set(features)
+    def __init__(self, random, size, features=(), often=1):
+        self.random, self.size, self.features, self.often = random, size, set(features), often
         self.steps, self.moving = [], random.random() < 0.4
         count = size // 4 + 6 if self.moving else random.randint(2, 8)
         self.variables = ["x%d" % one for one in range(count)]
@@ -51,7 +53,8 @@ class Trace:
         self.held = {one: [] for one in self.locks}      # the acquires that have no release yet
         self.things = {kind: [kind + str(one) for one in range(random.randint(1, 2))] for kind in MORE if kind in self.features}
         self.permits = {name: random.randint(0, 1) for name in self.things.get("semaphore", ())}
-        self.at_first, self.filled = dict(self.permits), {}
+        self.slots = {name: random.randint(0, 3) for name in self.things.get("channel", ())}
+        self.at_first, self.filled, self.closed, self.locked_by = dict(self.permits), {}, set(), {}
         self.make()
 
     def make(self):
@@ -86,7 +89,7 @@ class Trace:
 
     def add_any(self, thread):
         """Adds a step, or none if the operation that is drawn isn't possible."""
-        weights = [weight for weight, _ in OPERATIONS]
+        weights = [weight * (self.often if one is Trace.add_more else 1) for weight, one in OPERATIONS]
         self.random.choices([one for _, one in OPERATIONS], weights)[0](self, thread)
 
     def add_begin(self, thread):
@@ -158,6 +161,11 @@ class Trace:
         """Adds the steps that end a thread: its releases, the ends of its blocks and, if it leaves by pthread_exit, its join."""
         for lock in self.held_by(thread):
             self.release(thread, lock)
+        for name in [name for name, owner in self.locked_by.items() if owner == thread]:
+            self.add_handed(thread, name)
+        if "handed" in self.features:
+            # Up to here nobody unlocks a mutex of a thread that has no steps any more.
+            self.add(thread, "nop")
         if not any(step.thread == thread for step in self.steps):
             # Without an event, a fork and a join in one block would be no cycle, and with the scheduler's events they would.
             self.add(thread, "r", self.some_variable())
@@ -179,8 +187,12 @@ class Trace:
 
     def add_more(self, thread):
         kind = self.random.choice(sorted(self.things) + ["nop"])
-        if kind != "nop":
-            MORE[kind](self, thread, self.random.choice(self.things[kind]))
+        if kind == "nop":
+            return
+        name = self.random.choice(self.things[kind])
+        MORE[kind](self, thread, name)
+        while self.often > 1 and self.random.random() < 0.6:
+            MORE[kind](self, self.random.choice(self.live), name)
 
     def add_semaphore(self, thread, name):
         if self.permits[name] and self.random.random() < 0.5:
@@ -212,6 +224,62 @@ class Trace:
         else:
             self.add(thread, "await", name)
 
+    def add_rounds(self, thread, name):
+        """Counts a WaitGroup up or down, or waits for one that is at zero. Its next count up begins another round."""
+        count = self.filled.setdefault(name, [0])
+        if self.random.random() < (0.2 if count[0] else 0.6) and count[0] < 3:
+            amount = self.random.randint(1, 2)
+            count[0] += amount
+            self.add(thread, "up%d" % amount, name)
+        elif count[0]:
+            amount = self.random.randint(1, min(2, count[0]))
+            count[0] -= amount
+            self.add_with_waiter(thread, "down%d" % amount, name, None if count[0] else "await")
+        else:
+            self.add(thread, "await", name)
+
+    def add_channel(self, thread, name):
+        """Sends, receives, or closes a channel with up to three slots. Who finds no room or no message waits for another thread."""
+        messages, is_closed, slots = self.filled.setdefault(name, [0]), name in self.closed, self.slots[name]
+        if not is_closed and self.random.random() < (0.1 if slots else 0.5):
+            self.closed.add(name)
+            self.add_with_waiter(thread, "close", name, None if messages[0] else "pass")
+        elif messages[0] and (is_closed or messages[0] == slots or self.random.random() < 0.5):
+            waits = messages[0] == slots and not is_closed
+            messages[0] -= 1
+            messages[0] += self.add_with_waiter(thread, "get", name, "put" if waits else None)
+        elif is_closed:
+            self.add(thread, "pass", name)
+        elif slots:
+            messages[0] += 1
+            messages[0] -= self.add_with_waiter(thread, "put", name, None if messages[0] > 1 else "get")
+
+    def add_handed(self, thread, name):
+        """Locks a mutex that is free, or unlocks one that any thread has locked."""
+        if self.locked_by.get(name) is None:
+            self.locked_by[name] = thread
+            self.add(thread, "lock", name)
+            return
+        waited = self.add_with_waiter(thread, "unlock", name, "lock")
+        self.locked_by[name] = self.steps[-1].thread if waited else None
+
+    def add_timer(self, thread, name):
+        """Sets a timer and waits until it has gone off, receives what it has sent, or waits for one of its own."""
+        sent = self.filled.setdefault(name, [0])
+        if self.random.random() < 0.3:
+            self.add(thread, "after", name)
+            return
+        self.add(thread, "tick" if sent[0] else "set", name)
+        sent[0] = 1 - sent[0]
+
+    def add_with_waiter(self, thread, operation, target, waits):
+        """Adds an operation, perhaps with the operation `waits` of another thread, which waits for it. Returns how many have waited."""
+        if not waits or not self.others(thread) or self.random.random() < 0.5:
+            self.add(thread, operation, target)
+            return 0
+        self.meet("wait", target, [(thread, operation), (self.random.choice(self.others(thread)), waits)])
+        return 1
+
     def others(self, thread):
         return [one for one in self.live if one != thread]
 
@@ -241,7 +309,8 @@ class Trace:
 
     def add_condition(self, thread, name):
         """A thread that holds a lock waits on a condition until another one that takes the lock wakes it."""
-        locks = [lock for lock in self.locks if lock not in self.shared and [one.thread for one in self.held[lock]] == [thread]]
+        locks = [lock for lock in self.locks if (lock not in self.shared or "shared condition" in self.features)
+                 and [(one.thread, one.operation) for one in self.held[lock]] == [(thread, "acq")]]
         if not locks or not self.others(thread):
             return
         lock, waker = self.random.choice(locks), self.random.choice(self.others(thread))
@@ -252,9 +321,12 @@ class Trace:
 
 
 #: The kinds of things beside variables and locks, and what adds an operation of them. The operations are post and take of a
-#: semaphore, put and get of a queue, down and await of a latch, once, and in meetings arrive, leave, send and receive.
+#: semaphore, put and get of a queue, down and await of a latch, once, and in meetings arrive, leave, send and receive. Those of Go's
+#: own kinds are up1, up2, down1, down2 and await of rounds, put, get, close and pass (a receive once it is closed) of a channel, lock
+#: and unlock of a mutex that is handed on, and set, tick and after of timers.
 MORE = {"semaphore": Trace.add_semaphore, "once": Trace.add_once, "queue": Trace.add_queue, "latch": Trace.add_latch,
-        "barrier": Trace.add_barrier, "message": Trace.add_message, "condition": Trace.add_condition}
+        "barrier": Trace.add_barrier, "message": Trace.add_message, "condition": Trace.add_condition, "rounds": Trace.add_rounds,
+        "channel": Trace.add_channel, "handed": Trace.add_handed, "timer": Trace.add_timer}
 
 OPERATIONS = [(12, Trace.add_begin), (10, Trace.add_end), (4, Trace.add_fork), (2, Trace.add_exit), (2, Trace.add_join),
               (13, Trace.add_acquire), (12, Trace.add_release), (3, Trace.add_nothing), (40, Trace.add_access), (9, Trace.add_more)]
