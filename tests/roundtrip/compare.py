@@ -14,13 +14,14 @@ ORDERED = ("begin", "end", "fork", "join", "acq", "rel")
 
 #: The steps whose events come in any order, known by the first one of a group, with a key that sorts these events: the posts and the
 #: like that a wait reads; the ends and begins of two threads that meet at a channel without a buffer, and the two ways of their order;
-#: and the look at a channel by a thread that waits until it can send.
+#: the look at a channel by a thread that waits until it can send; and two readers of a lock.
 BLOCKS = {"end": 0, "begin": 1}
 ANY_ORDER = [
     (lambda step: step.operation in ("take", "await"), lambda operation, name, thread: (BLOCKS.get(operation, 2), name if operation == "r" else "")),
     (lambda step: step.meeting and step.meeting.kind == "message",
      lambda operation, name, thread: (BLOCKS[operation], thread) if operation in BLOCKS else (2, name.endswith(".back"))),
     (lambda step: step.meeting and step.operation == "get", lambda operation, name, thread: operation != "r" or "." in name),
+    (lambda step: step.meeting and step.operation == "unlock", lambda operation, name, thread: thread if operation == "r" else 0),
 ]
 
 

@@ -126,6 +126,8 @@ class Program:
         """Returns how the first blocks of a run of ends are left, and how many of them are left at once."""
         if run[0].at_exit:
             return "exit", len(run)
+        if run[0].meeting:
+            return "last act", len(run)
         count = self.random.randint(1, len(run))
         possible = [(mode, weight) for mode, weight in modes if mode != "tail" or count > 1]
         mode = self.random.choices([one for one, _ in possible], [one for _, one in possible])[0]
@@ -223,4 +225,4 @@ class Body:
             program.grouped_meetings[id(meeting)] = parts
             self.group(meeting.steps, how)
         self.lines.append(parts[self.thread])
-        return len([one for one in meeting.steps if one.thread == self.thread])
+        return len([one for one in meeting.steps if one.thread == self.thread and one.operation != "end"])

@@ -53,7 +53,7 @@ class Trace:
         self.held = {one: [] for one in self.locks}      # the acquires that have no release yet
         self.things = {kind: [kind + str(one) for one in range(random.randint(1, 2))] for kind in MORE if kind in self.features}
         self.permits = {name: random.randint(0, 1) for name in self.things.get("semaphore", ())}
-        self.slots = {name: random.randint(0, 3) for name in self.things.get("channel", ())}
+        self.slots = {name: random.choice((0, 1, 2, 3, 3)) for name in self.things.get("channel", ())}
         self.at_first, self.filled, self.closed, self.locked_by = dict(self.permits), {}, set(), {}
         self.make()
 
@@ -191,7 +191,7 @@ class Trace:
             return
         name = self.random.choice(self.things[kind])
         MORE[kind](self, thread, name)
-        while self.often > 1 and self.random.random() < 0.6:
+        while self.often > 1 and self.random.random() < 0.7:
             MORE[kind](self, self.random.choice(self.live), name)
 
     def add_semaphore(self, thread, name):
@@ -244,7 +244,7 @@ class Trace:
         if not is_closed and self.random.random() < (0.1 if slots else 0.5):
             self.closed.add(name)
             self.add_with_waiter(thread, "close", name, None if messages[0] else "pass")
-        elif messages[0] and (is_closed or messages[0] == slots or self.random.random() < 0.5):
+        elif messages[0] and (is_closed or messages[0] == slots or self.random.random() < 0.25):
             waits = messages[0] == slots and not is_closed
             messages[0] -= 1
             messages[0] += self.add_with_waiter(thread, "get", name, "put" if waits else None)
@@ -273,11 +273,18 @@ class Trace:
         sent[0] = 1 - sent[0]
 
     def add_with_waiter(self, thread, operation, target, waits):
-        """Adds an operation, perhaps with the operation `waits` of another thread, which waits for it. Returns how many have waited."""
+        """Adds an operation, perhaps with the operation `waits` of another thread, which waits for it. Returns how many have waited.
+
+        The thread's blocks may end with the operation, before the other thread goes on.
+        """
         if not waits or not self.others(thread) or self.random.random() < 0.5:
             self.add(thread, operation, target)
             return 0
-        self.meet("wait", target, [(thread, operation), (self.random.choice(self.others(thread)), waits)])
+        ends = len(self.open_blocks[thread]) if operation in ("put", "close") and self.random.random() < 0.6 else 0
+        meeting = self.meet("wait", target, [(thread, operation)] + [(thread, "end")] * ends + [(self.random.choice(self.others(thread)), waits)])
+        for end in meeting.steps[1:-1]:
+            begin = self.open_blocks[thread].pop()
+            begin.partner, end.partner, end.target = end, begin, None
         return 1
 
     def others(self, thread):

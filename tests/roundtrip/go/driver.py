@@ -8,8 +8,8 @@ from go.names import Names
 from go.program import GoProgram
 from traces import Trace
 
-#: What traces may have beside variables, locks and blocks. Each has some of it, so that it has more of that.
-FEATURES = ("once", "queue", "message", "condition", "latch", "rounds", "channel", "handed", "timer")
+#: What traces may have beside variables, locks and blocks, some of it twice as often. Each has a part of it, so that it has more of that.
+FEATURES = ("once", "queue", "message", "condition", "latch", "rounds", "rounds", "channel", "channel", "handed", "timer")
 HEAD = "package main\n\nimport (\n\t\"runtime\"\n\t\"sync\"\n\t\"sync/atomic\"\n\t\"time\"\n\t\"unsafe\"\n)\n\nvar _ = runtime.Gosched\n" \
     "var _ sync.Mutex\nvar _ atomic.Int64\nvar _ time.Time\nvar _ unsafe.Pointer\n\n"
 
@@ -17,7 +17,7 @@ HEAD = "package main\n\nimport (\n\t\"runtime\"\n\t\"sync\"\n\t\"sync/atomic\"\n
 def program_of(options, seed):
     source = random.Random("go %d %d" % (seed, options.size))
     size, features = source.randint(10, 2 * options.size), source.sample(FEATURES, 3)
-    trace = Trace(source, size, features + ["exit", "shared condition"], often=4)
+    trace = Trace(source, size, features + ["exit", "shared condition"], often=source.choice((1, 4, 4)))
     return trace, GoProgram(trace, source, seed, options.limits)
 
 

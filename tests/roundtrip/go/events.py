@@ -81,20 +81,20 @@ class Events:
         return [("acq", step.target + ".mutex"), ("w", step.target), ("rel", step.target + ".mutex")]
 
     def as_variable(self, step):
-        """Returns the name of a lock that isn't one for the checker, or None."""
-        if self.program.others[step.target].kind.type == "sync.RWMutex":
-            return step.target + ".rw"
-        return step.target + ".handed" if step.target in self.handed else None
+        """Returns the event of a lock that isn't one for the checker, or None."""
+        kind = self.program.others[step.target].kind
+        if kind.type == "sync.RWMutex":
+            return "r" if kind.operations is locks.READS else "w", step.target + ".rw"
+        return ("w", step.target + ".handed") if step.target in self.handed else None
 
     def of_lock(self, step):
         self.owner[step.target] = step.thread
-        name = self.as_variable(step)
-        return [("w", name) if name else ("acq", step.target)]
+        return [self.as_variable(step) or ("acq", step.target)]
 
     def of_unlock(self, step):
-        owner, name = self.owner[step.target], self.as_variable(step)
-        if name:
-            return [("w", name)]
+        owner, event = self.owner[step.target], self.as_variable(step)
+        if event:
+            return [event]
         if owner == step.thread:
             return [("rel", step.target)]
         self.handed.add(step.target)

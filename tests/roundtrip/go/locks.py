@@ -29,10 +29,10 @@ JOINS = {"a WaitGroup": ("var $j sync.WaitGroup", "$j.Add(1)", "$j.Done()", "$j.
          "an empty token": ("var $j chan struct{}", "$j = make(chan struct{}, 2)", "$j <- struct{}{}", "<-$j")}
 
 #: Other things: the type, what is done first, the texts of the operations, and words for all these. $k is the thing. Who waits for another
-#: goroutine has the trait waits.
+#: goroutine has the trait waits, and what ends a block the trait last.
 Other = namedtuple("Other", "name type start operations words")
-SENDS = forms([("send", "$k <- $v"), ("send in a select", "select { case $k <- $v: default: panic(1) }", "-waits"),
-               ("send in a select of two", "select { case $k <- $v: case <-none[$e](): }")])
+SENDS = forms([("send", "$k <- $v"), ("send in a select", "select { case $k <- $v: default: panic(1) }", "-waits -last"),
+               ("send in a select of two", "select { case $k <- $v: case <-none[$e](): }", "-last")])
 RECEIVES = forms([("receive", "<-$k"), ("receive with ok", "if _, ok := <-$k; !ok { panic(1) }"), ("receive by range", "for range $k { break }"),
                   ("receive in a select", "select { case <-$k: default: panic(1) }", "-waits"),
                   ("receive in a select of two", "select { case <-$k: case <-none[$e](): panic(1) }")])
@@ -44,6 +44,8 @@ NUMBERS, NOTHINGS = {"e": "int64", "v": "3"}, {"e": "struct{}", "v": "struct{}{}
 DOWNS = [("Done", "$k.Done()"), ("Add of -1", "$k.Add(-1)"), ("a deferred Done", "asideDone(&$k)")]
 HANDED = {"lock": forms([("Lock", "$k.Lock()"), ("TryLock", "if !$k.TryLock() { panic(1) }", "-waits")]),
           "unlock": forms([("Unlock", "$k.Unlock()"), ("Unlock of a Locker", "sync.Locker(&$k).Unlock()")])}
+READS = {"lock": forms([("RLock", "$k.RLock()"), ("TryRLock", "if !$k.TryRLock() { panic(1) }")]),
+         "unlock": forms([("RUnlock", "$k.RUnlock()"), ("Unlock of RLocker", "$k.RLocker().Unlock()")])}
 OTHERS = {
     "once": [Other("a Once", "sync.Once", "", {"once": forms([("Do", "$k.Do(func() { use(1) })")])}, {})],
     "latch": [Other("a WaitGroup for two", "sync.WaitGroup", "$k.Add(2)", {"down": forms(DOWNS), "await": forms([("Wait", "$k.Wait()")])}, {})],
@@ -55,7 +57,8 @@ OTHERS = {
                 Other("a channel of nothing", "chan $e", "$k = make(chan $e, $slots)", MESSAGES, NOTHINGS)],
     "message": [Other("a channel without a buffer", "chan int64", "$k = make(chan int64)", {
         "send": [one for one in SENDS if "-waits" not in one.needs], "receive": [one for one in RECEIVES if "-waits" not in one.needs]}, NUMBERS)],
-    "handed": [Other("a Mutex that is handed on", "sync.Mutex", "", HANDED, {}), Other("a RWMutex that is handed on", "sync.RWMutex", "", HANDED, {})],
+    "handed": [Other("a Mutex that is handed on", "sync.Mutex", "", HANDED, {}), Other("a RWMutex that is handed on", "sync.RWMutex", "", HANDED, {}),
+               Other("a RWMutex that a reader hands on", "sync.RWMutex", "", READS, {})],
     "timer": [Other("a timer", "*time.Timer", "$k = time.NewTimer(time.Hour); $k.Stop()", {
         "set": forms([("Reset", "$k.Reset(0); fired($k)"), ("Stop and Reset", "$k.Stop(); $k.Reset(0); fired($k)")]),
         "after": forms([("After", "<-time.After(0)"), ("After in a select", "select { case <-time.After(0): case <-none[int](): panic(1) }"),

@@ -105,12 +105,15 @@ class GoBody(Body):
     def add_release(self, step, near):
         return self.add_steps([step], *locks.take_or_release(self.program, step, locks.RELEASES))
 
+    def add(self, at):
+        return self.add_end(self.steps[at]) if self.steps[at].operation == "end" else super().add(at)
+
     def add_end(self, step):
         mode, numbers = self.program.leaving[step.number]
         begin, kind, before = self.stack.pop()
         if step.number == numbers[0] and mode == "exit":
             self.lines.append("turn(%d); done(%d); runtime.Goexit()" % (numbers[0], numbers[-1]))
-        elif step.number == numbers[0]:
+        elif step.number == numbers[0] and mode != "last act":
             self.lines.append("turn(%d)" % step.number)
             if mode == "panic":
                 self.lines.append("if some() >= 0 { panic(left{}) }")
@@ -142,12 +145,16 @@ def message_of(program, meeting):
 
 
 def wait_of(program, meeting):
-    it, (first, later) = program.others[meeting.target], meeting.steps
-    how, does = program.choose(it.kind.operations[first.operation], (), it.words)
+    """The first thread does what the other one waits for, perhaps as the last act of its blocks, which end at once then."""
+    it, first, later = program.others[meeting.target], meeting.steps[0], meeting.steps[-1]
+    ends = len(meeting.steps) > 2
+    how, does = program.choose(it.kind.operations[first.operation], {"last"} if ends else (), it.words)
     also, waits = program.choose(it.kind.operations[later.operation], {"waits"}, it.words)
+    # (with both ways of the order the block ends when its function does)
+    begins = "turn(%d)" % later.number if ends and program.settings.get("AERODROME_CHANNELS") == "both" else "follow(%d)" % first.number
     return "%s, and %s that waits for it, of %s" % (how, also, it.kind.name), {
-        first.thread: "turn(%d); flag(%d); pause(); %s; done(%d)" % (first.number, first.number, does, first.number),
-        later.thread: "follow(%d); %s; turn(%d); done(%d)" % (first.number, waits, later.number, later.number)}
+        first.thread: "turn(%d); flag(%d); pause(); %s" % (first.number, first.number, does) + ("" if ends else "; done(%d)" % first.number),
+        later.thread: "%s; %s; turn(%d); done(%d)" % (begins, waits, later.number, later.number)}
 
 
 def condition_of(program, meeting):
