@@ -108,7 +108,7 @@ static bool is_local(const struct goroutine *t, word at) {
 }
 
 void aero_atomic_access(struct goroutine *t, const char *operation, word at, const struct code *place) {
-    is_local(t, at);         /* (it counts, and has a line even if nobody else has touched the object) */
+    is_local(t, at);         /* (it counts as a touch, and has a line in any case) */
     if (aero_settings.grain) {
         aero_event(t, operation, start_of(at), place);
         return;

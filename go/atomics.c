@@ -1,7 +1,7 @@
 /* Atomic operations. They are carried out here, under the lock, so that the log has them in their true order (hooks.c). */
 #include "log.h"
 
-/* Whether a load of sync.Map's finds no value, or what stands for one that was deleted. */
+/* Returns whether a load of sync.Map's finds no value, or the word that stands for a deleted one. */
 static bool finds_no_value(const struct atomic *it) {
     static const word nothing, *expunged;
     if (!expunged) expunged = aero_word("sync.expunged");
@@ -9,8 +9,8 @@ static bool finds_no_value(const struct atomic *it) {
     return !it->found || it->found == *expunged;
 }
 
-/* Whether an operation of sync.Map's that doesn't write is no event, because another one follows it: a failed compare-and-swap is tried
- * again, LoadOrStore stores if it finds no value, and Delete and Store go on if they find one. */
+/* Returns whether sync.Map goes on with another operation on the entry after one that doesn't write, which is no event then: it tries a
+ * failed compare-and-swap again, LoadOrStore stores if it finds no value, Delete deletes if it finds one, and Store stores always. */
 static bool goes_on(const struct atomic *it) {
     if (!it->is_load) return true;
     if (it->asker->is & LOADS_OR_STORES) return finds_no_value(it);
