@@ -15,7 +15,10 @@ NO_BLOCKS = ["main.aside*", "main.main*", "main.t*_catch*", "main.*_defers*", "m
 
 
 class GoProgram(Program):
-    """The functions of a trace in a program in Go. Without quiet moments a block of a goroutine of its own is open all the time."""
+    """The functions of a trace in a program in Go. Without quiet moments a block of a goroutine of its own is open all the time.
+
+    In a crowded program all variables are small global ones, which lie side by side.
+    """
 
     language = "go"
 
@@ -23,7 +26,7 @@ class GoProgram(Program):
         super().__init__(trace, random, {"go"}, limits)
         self.prefix, self.has_quiet_moments = "t%d" % number, random.random() < 0.35
         self.settings = {name: value for name, values in SETTINGS for value in [random.choice(values)] if value}
-        self.skips_local = "AERODROME_LOCAL" in self.settings
+        self.skips_local, self.is_crowded = "AERODROME_LOCAL" in self.settings, number % 7 == 0
         self.globals, self.start, self.functions = [], [], []
         self.labels = {}
         self.variables = {name: variables.make_variable(self, at, name) for at, name in enumerate(trace.variables)}

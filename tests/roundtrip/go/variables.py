@@ -14,6 +14,9 @@ TYPES = [("int64", "some()", "number"), ("int32", "int32(some())", "number"), ("
          ("*int", "new(int)", ""), ("complex128", "complex(1, float64(some()))", ""), ("[3]byte", "[3]byte{1, byte(some())}", "bytes"),
          ("error", "error(nil)", ""), ("func()", "func() {}", ""), ("map[int]int", "map[int]int{}", ""), ("big", "big{1, 2, 3, some()}", "big")]
 
+#: The types of variables in a crowded program.
+SMALL = ("int32", "int8", "uint16", "bool", "[3]byte")
+
 #: A place: the declaration, what the first goroutine does first, the variable, its address and its traits.
 Place = namedtuple("Place", "name declared start x p traits")
 
@@ -79,6 +82,8 @@ def make_variable(program, number, name):
     it, random = Thing(number, name), program.random
     it.place = random.choice(PLACES)
     it.type, it.value, traits = random.choice(TYPES)
+    if program.is_crowded:
+        it.place, (it.type, it.value, traits) = PLACES[0], random.choice([one for one in TYPES if one[0] in SMALL])
     if it.place.traits == "functions":
         it.type, it.value, traits = random.choice(TYPES[:2])
     elif it.place.traits == "object":
