@@ -225,7 +225,7 @@ class Trace:
             self.add(thread, "await", name)
 
     def add_rounds(self, thread, name):
-        """Counts a WaitGroup up or down, or waits for one that is at zero. Its next count up begins another round."""
+        """Counts a WaitGroup up or down, or waits for one that is at zero. The first count down after a wait begins another round."""
         count = self.filled.setdefault(name, [0])
         if self.random.random() < (0.2 if count[0] else 0.6) and count[0] < 3:
             amount = self.random.randint(1, 2)
