@@ -98,7 +98,17 @@ static void grains(struct goroutine *t, const char *operation, word at, word byt
 
 /* ---- the hooks */
 
+/* AERODROME_LOCAL=skip: whether only this goroutine has touched the object so far. */
+static bool is_local(const struct goroutine *t, word at) {
+    struct object *it = aero_settings.skips_local ? aero_object(at) : NULL;
+    if (!it || it->is_shared) return false;
+    if (!it->owner) it->owner = t->id;
+    it->is_shared = it->owner != t->id;
+    return !it->is_shared;
+}
+
 void aero_atomic_access(struct goroutine *t, const char *operation, word at, const struct code *place) {
+    is_local(t, at);         /* (it counts as a touch, and has a line in any case) */
     if (aero_settings.grain) {
         aero_event(t, operation, start_of(at), place);
         return;
@@ -108,15 +118,6 @@ void aero_atomic_access(struct goroutine *t, const char *operation, word at, con
     if (!parts) return;
     *parts |= atomic_at(at);
     if (*parts >> (at & 7) & 1) aero_event(t, operation, at, place);
-}
-
-/* AERODROME_LOCAL=skip: whether only this goroutine has touched the object so far. */
-static bool is_local(const struct goroutine *t, word at) {
-    struct object *it = aero_settings.skips_local ? aero_object(at) : NULL;
-    if (!it || it->is_shared) return false;
-    if (!it->owner) it->owner = t->id;
-    it->is_shared = it->owner != t->id;
-    return !it->is_shared;
 }
 
 /* Where the program called the function of the runtime. */

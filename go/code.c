@@ -93,6 +93,8 @@ static const struct known {
     {"sync.(*entry).unexpunge", NOBODY, IS_SYNC},
     {"sync.(*entry).tryExpunge", NOBODY, IS_SYNC},
     {"sync.(*entry).load", GENERIC, IS_SYNC | IS_ENTRY | IS_ENTRY_LOAD},
+    {"sync.(*entry).tryLoadOrStore", GENERIC, IS_SYNC | IS_ENTRY | LOADS_OR_STORES},
+    {"sync.(*entry).delete", GENERIC, IS_SYNC | IS_ENTRY | DELETES},
     {"sync.(*entry).", GENERIC, IS_SYNC | IS_ENTRY},
     {"sync.", NOBODY, IS_SYNC},
     {"runtime.runOneTimer", TIMER_FIRES, 0},
@@ -119,6 +121,7 @@ static const struct known {
     {"syscall.", NOBODY, 0},
     {"internal/poll.", NOBODY, 0},
     {"time.", GENERIC, 0},
+    {"os.Exit", PROGRAM, ENDS_PROGRAM},
     /* What orders only lines of output, or numbers that are drawn. */
     {"log.", PROGRAM, IS_QUIET},
     {"math/rand.(*lockedSource).", PROGRAM, IS_QUIET},

@@ -104,29 +104,29 @@ static void ends_atomic(struct goroutine *t, bool is_logged, const struct atomic
     if (is_logged) aero_unlock();
 }
 #define AT(type, offset) (*(type *)(a + (offset)))
-#define ATOMIC(name, work, does_write, does_find) \
+#define ATOMIC(name, work, does_write) \
     ENTRY(__tsan_go_atomic##name, aero_atomic##name) \
     void aero_atomic##name(struct goroutine *t, word call, word code, char *a, place_t here) { \
         struct atomic it = {.at = AT(word, 0)}; \
         bool is_logged = begins_atomic(here, t, call, &it); \
         (void)code; \
         work; \
-        it.writes = (does_write), it.is_done = (does_find) != 0; \
+        it.writes = (does_write); \
         ends_atomic(t, is_logged, &it); \
     }
 #define IN_ORDER __ATOMIC_SEQ_CST
 #define FETCH(bits, type, what) \
-    ATOMIC(bits##_fetch_##what, AT(type, 16) = __atomic_fetch_##what((type *)it.at, AT(type, 8), IN_ORDER), 1, 1)
+    ATOMIC(bits##_fetch_##what, AT(type, 16) = __atomic_fetch_##what((type *)it.at, AT(type, 8), IN_ORDER), 1)
 /* new, done: where a compare-and-swap has the new value, and puts whether it has swapped. */
 #define ATOMICS(bits, type, new, done) \
-    ATOMIC(bits##_load, AT(type, 8) = __atomic_load_n((type *)it.at, IN_ORDER), 0, AT(type, 8)) \
-    ATOMIC(bits##_store, __atomic_store_n((type *)it.at, AT(type, 8), IN_ORDER), 1, 1) \
-    ATOMIC(bits##_exchange, AT(type, 16) = __atomic_exchange_n((type *)it.at, AT(type, 8), IN_ORDER), 1, 1) \
+    ATOMIC(bits##_load, it.is_load = true; it.found = AT(type, 8) = __atomic_load_n((type *)it.at, IN_ORDER), 0) \
+    ATOMIC(bits##_store, __atomic_store_n((type *)it.at, AT(type, 8), IN_ORDER), 1) \
+    ATOMIC(bits##_exchange, AT(type, 16) = __atomic_exchange_n((type *)it.at, AT(type, 8), IN_ORDER), 1) \
     FETCH(bits, type, add) FETCH(bits, type, and) FETCH(bits, type, or) \
     ATOMIC(bits##_compare_exchange, \
            type old = AT(type, 8); \
            AT(uint8_t, done) = __atomic_compare_exchange_n((type *)it.at, &old, AT(type, new), 0, IN_ORDER, IN_ORDER), \
-           AT(uint8_t, done), 1)
+           AT(uint8_t, done))
 ATOMICS(32, uint32_t, 12, 16)
 ATOMICS(64, uint64_t, 16, 24)
 

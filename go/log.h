@@ -57,7 +57,8 @@ enum asker {
 enum {
     IS_BLOCK = 1, IS_RUNTIME = 2, IS_LOW = 4, IS_HOOK = 8, IS_SYNC = 16, IS_RACE = 32, IS_MAP = 64, IS_ENTRY = 128,
     IS_ENTRY_LOAD = 256, IS_COND_WAIT = 512, SENDS = 1024, RUNS_TIMERS = 2048, RETURNS_BY_DEFERRED = 4096, PANICS = 8192,
-    IS_LIBRARY = 16384, IS_QUIET = 32768, IS_UNKNOWN = 65536
+    IS_LIBRARY = 16384, IS_QUIET = 32768, IS_UNKNOWN = 65536, ENDS_PROGRAM = 131072,
+    LOADS_OR_STORES = 262144, DELETES = 524288
 };
 /* A return address: the function that it is in, and the function whose source it is of, which may be inlined there. */
 struct code {
@@ -218,6 +219,7 @@ void aero_leave_by_panic(struct goroutine *t, const struct here *here);
 void aero_symbols_start(void);
 bool aero_has_symbols(void);
 const char *aero_global(word at, word *start, word *end);    /* the global variable that has the byte, or NULL */
+const word *aero_word(const char *variable);   /* where the global variable of that name lies, or NULL */
 bool aero_is_counter(word at);                 /* of go test -cover, and nothing that the program itself has */
 int aero_each_function(bool (*each)(const char *label));     /* until it returns 0 */
 
@@ -272,7 +274,8 @@ void aero_suffixed(struct goroutine *t, const char *operation, word at, const st
 struct atomic {
     word at;
     const struct code *place, *asker;
-    bool writes, is_done;    /* is_done: a compare-and-swap has swapped, a load has found something else than 0 */
+    bool writes, is_load;
+    word found;              /* by a load */
 };
 void aero_atomic(struct goroutine *t, const struct atomic *it);
 

@@ -106,6 +106,12 @@ const char *aero_global(word at, word *start, word *end) {
     return it->name;
 }
 
+const word *aero_word(const char *variable) {
+    size_t one = 0;
+    while (one < variable_count && strcmp(variables[one].name, variable)) one++;
+    return one < variable_count ? (const word *)variables[one].at : NULL;
+}
+
 bool aero_is_counter(word at) {
     word start, end;
     const char *name = counter_count ? aero_global(at, &start, &end) : NULL;

@@ -12,6 +12,19 @@ LINE = re.compile(r"^T(\d+)\|(\w+)(?:\((.*)\))?(?:\|.*)?$")
 ORDERED = ("begin", "end", "fork", "join", "acq", "rel")
 
 
+#: The steps whose events come in any order, known by the first one of a group, with a key that sorts these events: the posts and the
+#: like that a wait reads; the ends and begins of two threads that meet at a channel without a buffer, and the two ways of their order;
+#: the look at a channel by a thread that waits until it can send; and two readers of a lock.
+BLOCKS = {"end": 0, "begin": 1}
+ANY_ORDER = [
+    (lambda step: step.operation in ("take", "await"), lambda operation, name, thread: (BLOCKS.get(operation, 2), name if operation == "r" else "")),
+    (lambda step: step.meeting and step.meeting.kind == "message",
+     lambda operation, name, thread: (BLOCKS[operation], thread) if operation in BLOCKS else (2, name.endswith(".back"))),
+    (lambda step: step.meeting and step.operation == "get", lambda operation, name, thread: operation != "r" or "." in name),
+    (lambda step: step.meeting and step.operation == "unlock", lambda operation, name, thread: thread if operation == "r" else 0),
+]
+
+
 class Difference:
     def __init__(self, kind, step, how, expected, found):
         self.kind, self.step, self.how, self.expected, self.found = kind, step, how, expected, found
@@ -109,7 +122,8 @@ class Comparison:
     # Events of locks, threads and blocks.
 
     def compare_ordered(self, group, ordered):
-        threads = {step.thread for step in group.steps}
+        wanted = self.wanted_of(group)
+        threads = {step.thread for step in group.steps} | {thread for _, _, _, thread in wanted}
         kept = []
         for line, thing in ordered:
             if line.thread in threads:
@@ -117,25 +131,23 @@ class Comparison:
             elif not self.comes_late(line, thing):
                 self.differ("event of another thread", group.steps[0], "none", line)
         if group.steps[0].at_exit:
-            self.wait_for(group, kept)
+            self.wait_for(group, wanted, kept)
             return
-        wanted = [(step, operation, name) for step in group.steps for operation, name in self.program.events[step.number] if name not in self.variables]
         meeting = group.steps[0].meeting
         if meeting and meeting.kind == "barrier":
             # All arrivals come before all departures, but otherwise in any order.
             arrivals = len([line for line, _ in kept if line.operation == "w"])
             turn = any(line.operation == "r" for line, _ in kept[:arrivals])
-            wanted.sort(key=lambda one: (one[1] == "r", one[0].thread, one[2]))
+            wanted.sort(key=lambda one: (one[1] == "r", one[3], one[2]))
             kept.sort(key=lambda one: (turn or one[0].operation == "r", one[0].thread, str(one[1])))
-        if group.steps[0].operation in ("take", "await"):
-            # The posts and the like that a wait reads come in any order.
-            wanted.sort(key=lambda one: one[2])
-            kept.sort(key=lambda one: str(one[1]))
+        for key in [key for applies, key in ANY_ORDER if applies(group.steps[0])]:
+            wanted.sort(key=lambda one: key(one[1], str(one[2]), one[3]))
+            kept.sort(key=lambda one: key(one[0].operation, str(one[1]), one[0].thread))
         self.compare_lists(group, wanted, kept)
 
-    def wait_for(self, group, kept):
+    def wait_for(self, group, wanted, kept):
         """Compares the events that a thread's end makes, in any order. Those that are missing may still come."""
-        late = self.late[group.steps[0].thread] = [event for step in group.steps for event in self.program.events[step.number]]
+        late = self.late[group.steps[0].thread] = [(operation, name) for _, operation, name, _ in wanted]
         for line, thing in kept:
             if not self.comes_late(line, thing):
                 self.differ("extra", group.steps[0], late, line)
@@ -148,26 +160,31 @@ class Comparison:
             late.remove((line.operation, thing))
         return found
 
+    def wanted_of(self, group):
+        """Returns the ordered events of a group, each with its step and with its thread, which is the step's if the event names none."""
+        return [(step, operation, name, thread[0] if thread else step.thread) for step in group.steps
+                for operation, name, *thread in self.program.events[step.number] if name not in self.variables]
+
     def compare_lists(self, group, wanted, kept):
         if len(wanted) != len(kept):
             expected = ", ".join(self.shown(*one) for one in wanted) or "nothing"
             self.differ("missing" if len(kept) < len(wanted) else "extra", group.steps[0], expected, ", ".join(str(line) for line, _ in kept) or "nothing")
             return
-        for (step, operation, name), (line, thing) in zip(wanted, kept):
+        for (step, operation, name, thread), (line, thing) in zip(wanted, kept):
             if operation == "begin":
-                same = line.operation == "begin" and matches_label(self.label(step, name), line.name)
+                same = line.operation == "begin" and matches_label(self.label_of(step, name), line.name)
             else:
                 same = line.operation == operation and thing == name
-            if not same or line.thread != step.thread:
-                self.differ("another event", step, self.shown(step, operation, name), line)
+            if not same or line.thread != thread:
+                self.differ("another event", step, self.shown(step, operation, name, thread), line)
 
-    def label(self, step, name):
-        """Returns the label of a block that begins at a step. One that begins again, behind a wait, has the number of its begin as its name."""
-        return self.program.labels[name if name in self.program.labels else step.number]
+    def label_of(self, step, name):
+        """Returns the label of a begin. One that begins a block again has the number of the block's first begin for a name."""
+        return self.program.labels[name if isinstance(name, int) else step.number]
 
-    def shown(self, step, operation, name):
-        name = self.label(step, name) if operation == "begin" else name
-        return "T%d|%s" % (step.thread, operation if name is None else "%s(%s)" % (operation, name))
+    def shown(self, step, operation, name, thread):
+        name = self.label_of(step, name) if operation == "begin" else name
+        return "T%d|%s" % (thread, operation if name is None else "%s(%s)" % (operation, name))
 
     # Accesses to variables.
 
@@ -190,7 +207,7 @@ class Comparison:
             if (operation, name) not in seen:
                 if near:
                     self.touched.setdefault(step.number, set()).update(near)
-                elif not (operation == "r" and ("w", name) in wanted):
+                elif not (operation == "r" and ("w", name) in wanted) and not self.program.may_lack(step):
                     # (Compilers leave out the event of a read before a write of the same place, if nothing is in between.)
                     self.differ("missing", step, "%s(%s)" % (operation, name), ", ".join(map(str, lines[:5])) or "nothing")
 

@@ -48,6 +48,10 @@ class Program:
     def left_out(self, name):
         return not self.limits and known.is_known(self.language, self.traits, name)
 
+    def may_lack(self, step):
+        """Returns whether the log may lack an access, as settings of the logger ask for."""
+        return False
+
     def choose(self, table, traits, words=None):
         """Draws a form from those of the table that fit. Returns its name and its text with these words."""
         form = self.draw(table, traits)
@@ -122,6 +126,8 @@ class Program:
         """Returns how the first blocks of a run of ends are left, and how many of them are left at once."""
         if run[0].at_exit:
             return "exit", len(run)
+        if run[0].meeting:
+            return "last act", len(run)
         count = self.random.randint(1, len(run))
         possible = [(mode, weight) for mode, weight in modes if mode != "tail" or count > 1]
         mode = self.random.choices([one for one, _ in possible], [one for _, one in possible])[0]
@@ -219,4 +225,4 @@ class Body:
             program.grouped_meetings[id(meeting)] = parts
             self.group(meeting.steps, how)
         self.lines.append(parts[self.thread])
-        return len([one for one in meeting.steps if one.thread == self.thread])
+        return len([one for one in meeting.steps if one.thread == self.thread and one.operation != "end"])

@@ -33,12 +33,14 @@ class Meeting:
 class Trace:
     """A random trace of about `size` steps, with the operations of MORE that `features` names.
 
-    The features "twice" (locks that a thread takes twice), "exit" and "exit of main" (threads that end within blocks), "left" (that may
-    then hold locks) and "spare" (semaphores that are posted while they have permits of their first ones) change no list of MORE.
+    These features change no list of MORE: "twice" (locks that a thread takes twice), "exit" and "exit of main" (threads that end within
+    blocks), "left" (that may then hold locks), "spare" (semaphores that are posted while they have permits of their first ones), "shared
+    condition" (conditions of locks for readers) and "waiters" (operations of Go's things for which another thread waits).
+    Operations of MORE are drawn `often` times as often as without it, and if that is more than once, then several of a thing at once.
     """
 
-    def __init__(self, random, size, features=()):
-        self.random, self.size, self.features = random, size, set(features)
+    def __init__(self, random, size, features=(), often=1):
+        self.random, self.size, self.features, self.often = random, size, set(features), often
         self.steps, self.moving = [], random.random() < 0.4
         count = size // 4 + 6 if self.moving else random.randint(2, 8)
         self.variables = ["x%d" % one for one in range(count)]
@@ -53,7 +55,9 @@ class Trace:
         self.held = {one: [] for one in self.locks}      # the acquires that have no release yet
         self.things = {kind: [kind + str(one) for one in range(random.randint(1, 2))] for kind in MORE if kind in self.features}
         self.permits = {name: random.randint(0, 2 if "spare" in self.features else 1) for name in self.things.get("semaphore", ())}
-        self.first_permits, self.at_first, self.filled = dict(self.permits), dict(self.permits), {}
+        self.slots = {name: random.choice((0, 1, 2, 3, 3)) for name in self.things.get("channel", ())}
+        self.first_permits, self.at_first = dict(self.permits), dict(self.permits)
+        self.filled, self.closed, self.locked_by = {}, set(), {}
         self.make()
 
     def make(self):
@@ -88,7 +92,7 @@ class Trace:
 
     def add_any(self, thread):
         """Adds a step, or none if the operation that is drawn isn't possible."""
-        weights = [weight for weight, _ in OPERATIONS]
+        weights = [weight * (self.often if one is Trace.add_more else 1) for weight, one in OPERATIONS]
         self.random.choices([one for _, one in OPERATIONS], weights)[0](self, thread)
 
     def add_begin(self, thread):
@@ -170,9 +174,11 @@ class Trace:
         for lock in self.held_by(thread):
             if lock not in left:
                 self.release(thread, lock)
-        for name in self.things.get("handed", ()):
-            if self.filled.get(name) == [thread]:
-                self.add_handed(thread, name)
+        for name in [name for name, owner in self.locked_by.items() if owner == thread]:
+            self.add_handed(thread, name)
+        if "handed" in self.features:
+            # Up to here nobody unlocks a mutex of a thread that has no steps any more.
+            self.add(thread, "nop")
         quiet = ("nop", "touch", "take") if "bytes" in self.things else ()
         if not any(step.thread == thread and step.operation not in quiet for step in self.steps):
             # Without an event, a fork and a join in one block would be no cycle, and with the scheduler's events they would.
@@ -199,8 +205,12 @@ class Trace:
 
     def add_more(self, thread):
         kind = self.random.choice(sorted(self.things) + ["nop"] + (["condition"] * 4 + ["semaphore"] * 3 if "bytes" in self.things else []))
-        if kind != "nop":
-            MORE[kind](self, thread, self.random.choice(self.things[kind]))
+        if kind == "nop":
+            return
+        name = self.random.choice(self.things[kind])
+        MORE[kind](self, thread, name)
+        while self.often > 1 and self.random.random() < 0.7:
+            MORE[kind](self, self.random.choice(self.live), name)
 
     def add_semaphore(self, thread, name):
         if self.permits[name] and self.random.random() < 0.5:
@@ -223,15 +233,6 @@ class Trace:
     def add_touch(self, thread, name):
         """Accesses a part of bytes."""
         self.add(thread, "touch", name)
-
-    def add_handed(self, thread, name):
-        """Locks a mutex, or unlocks it, whoever has locked it. That thread is still there then, as its end would release the mutex."""
-        holder = self.filled.setdefault(name, [None])
-        before = holder[0]
-        self.add(thread, "unlock" if before else "lock", name)
-        holder[0] = None if before else thread
-        if before not in (None, thread):
-            self.add(before, "nop")
 
     def add_sync(self, thread, name):
         self.add(thread, self.random.choice(("before", "after")), name)
@@ -256,6 +257,69 @@ class Trace:
             self.add(thread, "down", name)
         else:
             self.add(thread, "await", name)
+
+    def add_rounds(self, thread, name):
+        """Counts a WaitGroup up or down, or waits for one that is at zero. The first count down after a wait begins another round."""
+        count = self.filled.setdefault(name, [0])
+        if self.random.random() < (0.2 if count[0] else 0.6) and count[0] < 3:
+            amount = self.random.randint(1, 2)
+            count[0] += amount
+            self.add(thread, "up%d" % amount, name)
+        elif count[0]:
+            amount = self.random.randint(1, min(2, count[0]))
+            count[0] -= amount
+            self.add_with_waiter(thread, "down%d" % amount, name, None if count[0] else "await")
+        else:
+            self.add(thread, "await", name)
+
+    def add_channel(self, thread, name):
+        """Sends, receives, or closes a channel with up to three slots. Who finds no room or no message waits for another thread."""
+        messages, is_closed, slots = self.filled.setdefault(name, [0]), name in self.closed, self.slots[name]
+        if not is_closed and self.random.random() < (0.1 if slots else 0.5):
+            self.closed.add(name)
+            self.add_with_waiter(thread, "close", name, None if messages[0] else "pass")
+        elif messages[0] and (is_closed or messages[0] == slots or self.random.random() < 0.25):
+            waits = messages[0] == slots and not is_closed
+            messages[0] -= 1
+            messages[0] += self.add_with_waiter(thread, "get", name, "put" if waits else None)
+        elif is_closed:
+            self.add(thread, "pass", name)
+        elif slots:
+            messages[0] += 1
+            messages[0] -= self.add_with_waiter(thread, "put", name, None if messages[0] > 1 else "get")
+
+    def add_handed(self, thread, name):
+        """Locks a mutex that is free, or unlocks one that any thread has locked."""
+        if self.locked_by.get(name) is None:
+            self.locked_by[name] = thread
+            self.add(thread, "lock", name)
+            return
+        waited = self.add_with_waiter(thread, "unlock", name, "lock" if "waiters" in self.features else None)
+        self.locked_by[name] = self.steps[-1].thread if waited else None
+
+    def add_timer(self, thread, name):
+        """Sets a timer and waits until it has gone off, receives what it has sent, or waits for one of its own."""
+        sent = self.filled.setdefault(name, [0])
+        if self.random.random() < 0.3:
+            self.add(thread, "after", name)
+            return
+        self.add(thread, "tick" if sent[0] else "set", name)
+        sent[0] = 1 - sent[0]
+
+    def add_with_waiter(self, thread, operation, target, waits):
+        """Adds an operation, perhaps with the operation `waits` of another thread, which waits for it. Returns how many have waited.
+
+        The thread's blocks may end with the operation, before the other thread goes on.
+        """
+        if not waits or not self.others(thread) or self.random.random() < 0.5:
+            self.add(thread, operation, target)
+            return 0
+        ends = len(self.open_blocks[thread]) if operation in ("put", "close") and self.random.random() < 0.6 else 0
+        meeting = self.meet("wait", target, [(thread, operation)] + [(thread, "end")] * ends + [(self.random.choice(self.others(thread)), waits)])
+        for end in meeting.steps[1:-1]:
+            begin = self.open_blocks[thread].pop()
+            begin.partner, end.partner, end.target = end, begin, None
+        return 1
 
     def others(self, thread):
         return [one for one in self.live if one != thread]
@@ -292,7 +356,8 @@ class Trace:
 
     def add_condition(self, thread, name):
         """A thread that holds a lock waits on a condition until another one that takes the lock wakes it."""
-        locks = [lock for lock in self.locks if lock not in self.shared and [one.thread for one in self.held[lock]] == [thread]]
+        locks = [lock for lock in self.locks if (lock not in self.shared or "shared condition" in self.features)
+                 and [(one.thread, one.operation) for one in self.held[lock]] == [(thread, "acq")]]
         free = [lock for lock in self.locks if lock not in self.shared and not self.held[lock]] if "bytes" in self.things else []
         if free and not locks and self.others(thread):
             locks = [self.random.choice(free)]
@@ -308,10 +373,13 @@ class Trace:
 
 #: The kinds of things beside variables and locks, and what adds an operation of them. The operations are post and take of a
 #: semaphore, put and get of a queue, down and await of a latch, once, touch of bytes, lock and unlock of a mutex that threads hand on,
-#: before and after of an order that is said, and in meetings arrive, leave, send, receive, open, look and close.
+#: before and after of an order that is said, and in meetings arrive, leave, send, receive, open, look and close. Those of Go's own kinds
+#: are up1, up2, down1, down2 and await of rounds, put, get, close and pass (a receive once it is closed) of a channel, and set, tick and
+#: after of timers.
 MORE = {"semaphore": Trace.add_semaphore, "once": Trace.add_once, "queue": Trace.add_queue, "latch": Trace.add_latch,
         "bytes": Trace.add_touch, "handed": Trace.add_handed, "sync": Trace.add_sync, "frame": Trace.add_frame,
-        "barrier": Trace.add_barrier, "message": Trace.add_message, "condition": Trace.add_condition}
+        "barrier": Trace.add_barrier, "message": Trace.add_message, "condition": Trace.add_condition, "rounds": Trace.add_rounds,
+        "channel": Trace.add_channel, "timer": Trace.add_timer}
 
 OPERATIONS = [(12, Trace.add_begin), (10, Trace.add_end), (4, Trace.add_fork), (2, Trace.add_exit), (2, Trace.add_join),
               (13, Trace.add_acquire), (12, Trace.add_release), (3, Trace.add_nothing), (40, Trace.add_access), (9, Trace.add_more)]

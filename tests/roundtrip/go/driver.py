@@ -8,14 +8,16 @@ from go.names import Names
 from go.program import GoProgram
 from traces import Trace
 
-FEATURES = ("once", "queue", "message", "condition", "exit", "latch")
-HEAD = "package main\n\nimport (\n\t\"runtime\"\n\t\"sync\"\n\t\"sync/atomic\"\n\t\"unsafe\"\n)\n\nvar _ = runtime.Gosched\nvar _ sync.Mutex\n" \
-    "var _ atomic.Int64\nvar _ unsafe.Pointer\n\n"
+#: What traces may have beside variables, locks and blocks, some of it twice as often. Each has a part of it, so that it has more of that.
+FEATURES = ("once", "queue", "message", "condition", "latch", "rounds", "rounds", "channel", "channel", "handed", "timer")
+HEAD = "package main\n\nimport (\n\t\"runtime\"\n\t\"sync\"\n\t\"sync/atomic\"\n\t\"time\"\n\t\"unsafe\"\n)\n\nvar _ = runtime.Gosched\n" \
+    "var _ sync.Mutex\nvar _ atomic.Int64\nvar _ time.Time\nvar _ unsafe.Pointer\n\n"
 
 
 def program_of(options, seed):
     source = random.Random("go %d %d" % (seed, options.size))
-    trace = Trace(source, source.randint(10, 2 * options.size), FEATURES)
+    size, features = source.randint(10, 2 * options.size), source.sample(FEATURES, 3)
+    trace = Trace(source, size, features + ["exit", "shared condition", "waiters"], often=source.choice((1, 4, 4)))
     return trace, GoProgram(trace, source, seed, options.limits)
 
 
@@ -24,14 +26,18 @@ def differences_of(options, seed, trace, program, folder):
     folder = driver.fresh(folder)
     driver.write(folder + "/trace.std", "".join(line + "\n" for _, line in program.lines()))
     driver.write(folder + "/functions.go", program.text())
-    settings = {"AERODROME_LOG": folder + "/marked.log", "AERODROME_SPLIT": "none", "AERODROME_BLOCKS": program.no_blocks(), "STAGE_MARKS": "1",
-                "STAGE_TRACE": str(seed)}
+    driver.write(folder + "/settings", "".join("%s=%s\n" % one for one in sorted(program.settings.items())))
+    settings = dict(program.settings, AERODROME_LOG=folder + "/marked.log", AERODROME_BLOCKS=program.no_blocks(), STAGE_MARKS="1",
+                    STAGE_TRACE=str(seed))
     status, _, said = driver.call([options.folder + "/go/program"], settings)
     if status or (said and "no block is logged" not in said):
         return [compare.Difference("failure", None, "the run", "status 0", "status %d %s" % (status, said[:900]))]
     names = Names(program)
     comparison = compare.Comparison(trace, program, names.windows(compare.lines_of(folder + "/marked.log")), names)
-    return comparison.run() + driver.compare_verdicts(options.checker, folder + "/trace.std", folder + "/marked.log", program, comparison)
+    found = comparison.run()
+    if not program.has_certain_verdict():
+        return found
+    return found + driver.compare_verdicts(options.checker, folder + "/trace.std", folder + "/marked.log", program, comparison)
 
 
 def run(options, seeds):

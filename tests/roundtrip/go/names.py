@@ -1,35 +1,48 @@
 """The lines of a log of Go in the order of the trace's steps, and which variables and locks its names are."""
 import re
 
+from go.events import FIRST_TIMER
+
 MARK = re.compile(r"^main\.marks(?:\+(\d+))?$")
-#: Names of messages, of calls of Done and of goroutines' numbers that are used again.
+#: The first mark of a goroutine that follows a step, and of one that has no steps any more. Those of steps are below.
+FOLLOWED, ENDED = 4000, 8000
+#: Names of messages, of calls of Done and of goroutines' numbers that are used again, in the log and in the trace.
 MESSAGE = re.compile(r"^(.*~\d*|go\.T\d+)$")
-#: Variables that programs have beside those of the trace, such as those that contain channels.
-BESIDE = re.compile(r"^main\.(t\d+_(join|queue|message|once|cond|latch)\d+|held)$")
+MESSAGES = re.compile(r"^(queue|message|latch|rounds|channel|timer)\d+\.|^fork\.")
+#: Variables that programs have beside those of the trace, such as those that contain channels, and those of package time.
+BESIDE = re.compile(r"^main\.(t\d+_(join|queue|message|cond|latch|rounds|channel|timer)\d+|held)$|^time\.\w+$")
 
 
 class Names:
     def __init__(self, program):
         self.program, self.learned, self.bound, self.writers = program, {}, set(), {}
 
+    def events(self, steps):
+        """Returns the events of steps, each with its step and its thread."""
+        return [(step, operation, name, thread[0] if thread else step.thread) for step in steps for operation, name, *thread in self.program.events[step.number]]
+
     def windows(self, lines):
         """Returns for each step its lines, with the numbers that threads have in the trace.
 
         A begin is logged just before the first event of its block, so it goes to the step of the thread's next begin.
         """
-        steps = self.program.trace.steps
-        forks = [step.target for step in steps if step.operation == "fork"]
-        begins = {thread: [step.number for step in steps if step.operation == "begin" and step.thread == thread] for thread in [1] + forks}
+        events = self.events(self.program.trace.steps)
+        forks = [step.target for step, operation, _, _ in events if operation == "fork"]
+        begins = {thread: [step.number for step, operation, _, by in events if operation == "begin" and by == thread] for thread in [1] + forks}
+        timers = sorted({thread for step, _, _, thread in events if thread != step.thread and thread >= FIRST_TIMER})
         numbers, windows, current, ended = {1: 1}, {}, -1, set()
         if not self.program.has_quiet_moments:
             forks.insert(0, 0)
         for line in lines:
             mark = MARK.match(line.name or "") if line.operation == "w" else None
+            if line.thread not in numbers and line.operation == "r" and MESSAGE.match(line.name) and timers:
+                numbers[line.thread] = timers.pop(0)
             line.thread = numbers.get(line.thread, -1)
-            if mark and int(mark[1] or 0) >= 8000:
+            number = int(mark[1] or 0) // 8 if mark else None
+            if mark and number >= ENDED:
                 ended.add(line.thread)
-            elif mark:
-                current = int(mark[1] or 0)
+            elif mark and number < FOLLOWED:
+                current = number
             elif line.thread in ended and line.operation == "w":
                 self.writers.setdefault(line.name, line.thread)
             if mark or line.thread in ended:
@@ -53,25 +66,23 @@ class Names:
             return self.learned[line.name]
         if line.operation == "w":
             self.writers.setdefault(line.name, line.thread)
-        events = [(step, operation, name) for step in group.steps for operation, name in self.program.events[step.number]]
-        for step, operation, name in events:
-            if operation == line.operation and self.may_be(line, step, name):
+        for _, operation, name, thread in self.events(group.steps):
+            if operation == line.operation and self.may_be(line, thread, name):
                 if not name.startswith("ends."):
                     self.learned[line.name] = name
                     self.bound.add(name)
                 return name
         return None
 
-    def may_be(self, line, step, name):
-        """Returns whether a new name may be that of an event of the step."""
-        if line.thread != step.thread:
+    def may_be(self, line, thread, name):
+        """Returns whether a new name may be that of an event of the thread."""
+        if line.thread != thread or BESIDE.match(line.name):
             return False
         if name.startswith("ends."):
             return "T%s" % self.writers.get(line.name) == name[5:]
         if name in self.program.variables:
-            return not MESSAGE.match(line.name) and not BESIDE.match(line.name)
-        is_message = bool(MESSAGE.match(line.name))
-        return name not in self.bound and is_message == name.startswith(("queue", "message", "latch"))
+            return not MESSAGE.match(line.name)
+        return name not in self.bound and bool(MESSAGE.match(line.name)) == bool(MESSAGES.match(name))
 
     def may_read(self, variable):
         """Returns whether a write of the variable may read it too: one of a map reads the map."""

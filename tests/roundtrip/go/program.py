@@ -1,28 +1,42 @@
 """From traces, one program in Go that executes one of them, by its number."""
+import re
+
 from go import blocks, locks, variables
+from go.events import Events
 from program import Body, Program
-from traces import event_of, line_of
+from traces import line_of
 
 ENDS = [("return", 2), ("panic", 1), ("tail", 1)]
+#: The settings of the logger that a program may have, with their values. With None the default holds.
+SETTINGS = [("AERODROME_SPLIT", ["none", None, "waits", "threads", "waits,threads"]), ("AERODROME_GRAIN", [None, None, None, None, "1", "2", "4", "8"]),
+            ("AERODROME_CHANNELS", [None, None, "one", "both"]), ("AERODROME_LOCAL", [None, None, None, None, None, "skip"])]
 #: The functions that are no blocks, beside those in which goroutines begin.
 NO_BLOCKS = ["main.aside*", "main.main*", "main.t*_catch*", "main.*_defers*", "main.t*_first*"]
 
 
 class GoProgram(Program):
-    """The functions of a trace in a program in Go. Without quiet moments a block of a goroutine of its own is open all the time."""
+    """The functions of a trace in a program in Go. Without quiet moments a block of a goroutine of its own is open all the time.
+
+    In a crowded program all variables are small global ones, which lie side by side.
+    """
 
     language = "go"
 
     def __init__(self, trace, random, number, limits=False):
         super().__init__(trace, random, {"go"}, limits)
-        self.prefix, self.has_quiet_moments = "t%d" % number, random.random() < 0.5
+        self.prefix, self.has_quiet_moments = "t%d" % number, random.random() < 0.35
+        self.settings = {name: value for name, values in SETTINGS for value in [random.choice(values)] if value}
+        self.skips_local, self.is_crowded = "AERODROME_LOCAL" in self.settings, number % 7 == 0
         self.globals, self.start, self.functions = [], [], []
         self.labels = {}
         self.variables = {name: variables.make_variable(self, at, name) for at, name in enumerate(trace.variables)}
         self.locks = {name: locks.make_lock(self, at, name) for at, name in enumerate(trace.locks)}
         self.others = {name: locks.make_other(self, kind, at, name)
                        for kind, names in trace.things.items() if kind in locks.OTHERS for at, name in enumerate(names)}
-        self.joins = {step.target: random.choice(sorted(locks.JOINS)) for step in trace.steps if step.operation == "fork"}
+        forks = [step.target for step in trace.steps if step.operation == "fork"]
+        self.joins = {target: random.choice(sorted(locks.JOINS)) for target in forks}
+        # (at a quiet moment a timer may get the number of a goroutine)
+        self.by_timer = [] if self.has_quiet_moments else [target for target in forks if random.random() < 0.2]
         self.plan_ends(ENDS)
         self.all_events = Events(self).all()
         self.events = {number: [one for one in events if not self.is_left_out(one[1])] for number, events in self.all_events.items()}
@@ -30,8 +44,19 @@ class GoProgram(Program):
         self.tops = {thread: GoBody(self, thread).lines for thread in sorted(everyone)}
 
     def is_left_out(self, name):
-        """Returns whether the log may lack the events of a name, because of a quiet moment."""
-        return self.has_quiet_moments and name is not None and name.startswith(("ends.", "queue", "message", "latch"))
+        """Returns whether the log may lack the events of a name, because of a quiet moment, or as only one goroutine has touched a channel."""
+        quiet = self.has_quiet_moments and re.match(r"(message|latch|rounds|timer)\d+\.|(ends|of)\.", str(name))
+        return bool(quiet or (self.skips_local and re.match(r"(message|queue|channel)\d+$|(ends|of)\.", str(name))))
+
+    def may_lack(self, step):
+        """Returns whether the log may lack an access, because no second goroutine has touched the variable up to then."""
+        threads = {one.thread for one in self.trace.steps[:step.number + 1] if one.target == step.target}
+        return self.skips_local and len(threads) < 2 and self.variables[step.target].place.name not in ("a global", "a global array")
+
+    def has_certain_verdict(self):
+        """Returns whether the log has the verdict of the trace: a log with less may hide a violation, and of two ways any comes first."""
+        both = self.settings.get("AERODROME_CHANNELS") == "both"
+        return not self.skips_local and not (both and ("message" in self.trace.features or "a meeting" in " ".join(self.joins.values())))
 
     def no_blocks(self):
         """Returns the setting that makes blocks of the functions of the trace."""
@@ -44,8 +69,9 @@ class GoProgram(Program):
         for step in self.trace.steps:
             last[step.target if step.operation == "fork" else step.thread] = step.number
         for step in self.trace.steps:
-            for operation, name in self.all_events[step.number]:
-                yield step, line_of(step.thread, operation, name)
+            for operation, name, *thread in self.all_events[step.number]:
+                name = self.trace.steps[name].target if isinstance(name, int) else name
+                yield step, line_of(thread[0] if thread else step.thread, operation, name)
             for thread, number in sorted(last.items()):
                 if number == step.number and thread != 1:
                     yield step, line_of(thread, "w", "ends.T%d" % thread)
@@ -65,43 +91,6 @@ class GoProgram(Program):
         return "\n".join(self.globals + self.functions + [first] + bodies) + "\n"
 
 
-class Events:
-    """The operations and names of the events of each step, as docs/go-events.md has them."""
-
-    def __init__(self, program):
-        self.program, self.puts, self.gets, self.done, self.down = program, {}, {}, set(), {}
-
-    def all(self):
-        return {step.number: self.of(step) for step in self.program.trace.steps}
-
-    def count(self, counts, name):
-        counts[name] = counts.get(name, 0) + 1
-        return counts[name]
-
-    def of(self, step):
-        if step.operation == "join":
-            # Who receives through a slot of a buffer writes it.
-            return [("w" if "message" in self.program.joins[step.target] else "r", "ends.T%d" % step.target)]
-        if step.operation == "once":
-            first = step.target not in self.done
-            self.done.add(step.target)
-            name = step.target
-            return [("acq", name + ".mutex"), ("w", name), ("rel", name + ".mutex")] if first else [("r", name)]
-        if step.operation == "down":
-            self.down.setdefault(step.target, []).append(step.thread)
-            return [("w", "%s.%d" % (step.target, len(self.down[step.target])))]
-        if step.operation == "await":
-            return [("r", "%s.%d" % (step.target, at + 1)) for at, thread in enumerate(self.down[step.target]) if thread != step.thread]
-        if step.operation == "put":
-            return [("w", "%s.slot%d" % (step.target, (self.count(self.puts, step.target) - 1) % 4))]
-        if step.operation == "get":
-            return [("w", "%s.slot%d" % (step.target, (self.count(self.gets, step.target) - 1) % 4))]
-        if step.operation in ("send", "receive"):
-            counts = self.puts if step.operation == "send" else self.gets
-            return [("w" if step.operation == "send" else "r", "%s.%d" % (step.target, self.count(counts, step.target)))]
-        return [] if step.operation == "nop" else [event_of(step, self.program.trace.shared)]
-
-
 class GoBody(Body):
     """The text of a goroutine's function."""
 
@@ -119,12 +108,15 @@ class GoBody(Body):
     def add_release(self, step, near):
         return self.add_steps([step], *locks.take_or_release(self.program, step, locks.RELEASES))
 
+    def add(self, at):
+        return self.add_end(self.steps[at]) if self.steps[at].operation == "end" else super().add(at)
+
     def add_end(self, step):
         mode, numbers = self.program.leaving[step.number]
         begin, kind, before = self.stack.pop()
         if step.number == numbers[0] and mode == "exit":
             self.lines.append("turn(%d); done(%d); runtime.Goexit()" % (numbers[0], numbers[-1]))
-        elif step.number == numbers[0]:
+        elif step.number == numbers[0] and mode != "last act":
             self.lines.append("turn(%d)" % step.number)
             if mode == "panic":
                 self.lines.append("if some() >= 0 { panic(left{}) }")
@@ -149,9 +141,23 @@ def message_of(program, meeting):
     it, (send, receive) = program.others[meeting.target], meeting.steps
     how, sends = program.choose(it.kind.operations["send"], (), it.words)
     also, receives = program.choose(it.kind.operations["receive"], (), it.words)
+    pause = "pause(); " if program.chance(0.5) else ""
     return "%s and %s of %s" % (how, also, it.kind.name), {
-        send.thread: "turn(%d); done(%d); %s" % (send.number, send.number, sends),
+        send.thread: "turn(%d); done(%d); %s%s" % (send.number, send.number, pause, sends),
         receive.thread: "turn(%d); %s; done(%d)" % (receive.number, receives, receive.number)}
+
+
+def wait_of(program, meeting):
+    """The first thread does what the other one waits for, perhaps as the last act of its blocks, which end at once then."""
+    it, first, later = program.others[meeting.target], meeting.steps[0], meeting.steps[-1]
+    ends = len(meeting.steps) > 2
+    how, does = program.choose(it.kind.operations[first.operation], {"last"} if ends else (), it.words)
+    also, waits = program.choose(it.kind.operations[later.operation], {"waits"}, it.words)
+    # (with both ways of the order the block ends when its function does)
+    begins = "turn(%d)" % later.number if ends and program.settings.get("AERODROME_CHANNELS") == "both" else "follow(%d)" % first.number
+    return "%s, and %s that waits for it, of %s" % (how, also, it.kind.name), {
+        first.thread: "turn(%d); flag(%d); pause(); %s" % (first.number, first.number, does) + ("" if ends else "; done(%d)" % first.number),
+        later.thread: "%s; %s; turn(%d); done(%d)" % (begins, waits, later.number, later.number)}
 
 
 def condition_of(program, meeting):
@@ -165,4 +171,4 @@ def condition_of(program, meeting):
             acq.number, it.words["m"], rel.number, cond, wake, it.words["m"], again.number)}
 
 
-MEETINGS = {"message": message_of, "condition": condition_of}
+MEETINGS = {"message": message_of, "condition": condition_of, "wait": wait_of}

@@ -7,6 +7,7 @@ import (
 	"runtime"
 	"strconv"
 	"sync"
+	"time"
 	"unsafe"
 )
 
@@ -22,7 +23,7 @@ var (
 	pointers [1024]unsafe.Pointer
 	flags    [4096]bool
 	marked   bool
-	marks    [8192]byte
+	marks    [8192]int64
 	anything int64 = 1
 	held     int64
 	source   [4]int64
@@ -63,6 +64,49 @@ func flag(at int) { flags[at] = true }
 //go:norace
 func flagged(at int) bool { return flags[at] }
 
+// follow waits until the step has begun. It marks that the goroutine is there, so that its blocks have begun in the log.
+//
+//go:norace
+func follow(step int) {
+	for !flags[step] {
+		runtime.Gosched()
+	}
+	if marked {
+		asideMark(4000 + step)
+	}
+}
+
+// pause gives another goroutine the time to wait for what comes next.
+//
+//go:norace
+func pause() {
+	for turns := 0; turns < 40; turns++ {
+		runtime.Gosched()
+	}
+}
+
+// fired waits until a timer has sent.
+//
+//go:norace
+func fired(it *time.Timer) {
+	for len(it.C) == 0 {
+		runtime.Gosched()
+	}
+}
+
+// loaded returns a value that has to be there.
+//
+//go:norace
+func loaded(it any, isThere bool) any {
+	if !isThere {
+		panic(1)
+	}
+	return it
+}
+
+//go:norace
+func none[T any]() chan T { return nil }
+
 //go:norace
 func some() int64 { anything = anything * 3 & 127; return anything }
 
@@ -95,11 +139,12 @@ func bigOf() *big { return &aBig }
 //go:norace
 func steps(most int) bool { return current < most }
 
-func asideMark(step int)         { marks[step] = 1 }
-func asideUnlock(it sync.Locker) { defer it.Unlock() }
-func asideCaught()               { recover() }
-func asideMakeBig() big          { return big{1, 2, 3, some()} }
-func asideTakeBig(it big)        { use(it) }
+func asideMark(step int)           { marks[step] = 1 }
+func asideUnlock(it sync.Locker)   { defer it.Unlock() }
+func asideDone(it *sync.WaitGroup) { defer it.Done() }
+func asideCaught()                 { recover() }
+func asideMakeBig() big            { return big{1, 2, 3, some()} }
+func asideTakeBig(it big)          { use(it) }
 
 // keeper is a block that is open while the steps are done, so that there is no quiet moment in which numbers are free again.
 func keeper(most int) {

@@ -14,6 +14,9 @@ TYPES = [("int64", "some()", "number"), ("int32", "int32(some())", "number"), ("
          ("*int", "new(int)", ""), ("complex128", "complex(1, float64(some()))", ""), ("[3]byte", "[3]byte{1, byte(some())}", "bytes"),
          ("error", "error(nil)", ""), ("func()", "func() {}", ""), ("map[int]int", "map[int]int{}", ""), ("big", "big{1, 2, 3, some()}", "big")]
 
+#: The types of variables in a crowded program.
+SMALL = ("int32", "int8", "uint16", "bool", "[3]byte")
+
 #: A place: the declaration, what the first goroutine does first, the variable, its address and its traits.
 Place = namedtuple("Place", "name declared start x p traits")
 
@@ -33,9 +36,11 @@ PLACES = [
           "{ v := map[string]int64{\"a\": 1}; put($n, *(*unsafe.Pointer)(unsafe.Pointer(&v))) }", "${g}_m()", "", "map"),
     Place("a number for atomic functions", "", "put($n, unsafe.Pointer(new($type)))", "", "(*$type)(at($n))", "functions"),
     Place("an object of sync/atomic", "", "put($n, unsafe.Pointer(new(atomic.$type)))", "(*atomic.$type)(at($n))", "", "object"),
+    Place("a sync.Map", "", "{ m := new(sync.Map); m.Store(7, 1); m.Range(func(k, v any) bool { return true }); put($n, unsafe.Pointer(m)) }",
+          "(*sync.Map)(at($n))", "", "entry"),
     Place("an atomic.Value", "", "{ v := new(atomic.Value); v.Store(3); put($n, unsafe.Pointer(v)) }", "(*atomic.Value)(at($n))", "", "value"),
 ]
-OBJECTS = [("Int64", "3", "added"), ("Int32", "3", "added"), ("Uint64", "3", "added"), ("Bool", "true", ""), ("Pointer[int]", "new(int)", "")]
+OBJECTS = [("Int64", "3", "added signed"), ("Int32", "3", "added signed"), ("Uint64", "3", "added"), ("Bool", "true", ""), ("Pointer[int]", "new(int)", "")]
 
 WRITES = forms([
     ("=", "$x = $value", "plain", 2), ("*p =", "{ p := $p; *p = $value }", "plain"), ("= of two", "$x, _ = $value, some()", "plain"),
@@ -47,6 +52,9 @@ WRITES = forms([
     ("atomic.CompareAndSwap", "if !atomic.CompareAndSwap$T($p, $old, 5) { panic(1) }", "functions"),
     ("= without sync/atomic", "{ p := $p; *p = $value }", "functions"),
     ("Store", "$x.Store($value)", "object"), ("Swap", "$x.Swap($value)", "object"), ("Add", "$x.Add(2)", "object added"),
+    ("CompareAndSwap", "if !$x.CompareAndSwap($old, 5) { panic(1) }", "object signed"),
+    ("Store into a Map", "$x.Store(7, some())", "entry"), ("Delete and Store", "$x.Delete(7); $x.Store(7, 2)", "entry"),
+    ("LoadAndDelete and LoadOrStore", "$x.LoadAndDelete(7); $x.LoadOrStore(7, 3)", "entry"),
     ("Store of a Value", "$x.Store(4)", "value"), ("Swap of a Value", "$x.Swap(5)", "value"),
 ])
 READS = forms([
@@ -60,6 +68,9 @@ READS = forms([
     ("atomic.Load", "use(atomic.Load$T($p))", "functions"),
     ("atomic.CompareAndSwap, failed", "if atomic.CompareAndSwap$T($p, $old + 1, 5) { panic(1) }", "functions"),
     ("*p without sync/atomic", "use(*$p)", "functions"),
+    ("CompareAndSwap, failed", "if $x.CompareAndSwap($old + 1, 5) { panic(1) }", "object signed"),
+    ("Load of a key", "use(loaded($x.Load(7)))", "entry"), ("LoadOrStore of a key", "use(loaded($x.LoadOrStore(7, 4)))", "entry"),
+    ("Range of a Map", "$x.Range(func(k, v any) bool { use(v); return true })", "entry"),
     ("Load", "use($x.Load())", "object"), ("Load of a Value", "use($x.Load())", "value"),
 ])
 CHANGES = forms([("x++", "$x++", "plain counted|number"), ("x += 3", "$x += 3", "plain counted|number"), ("x = x + 1", "$x = $x + 1", "plain counted|number"),
@@ -71,6 +82,8 @@ def make_variable(program, number, name):
     it, random = Thing(number, name), program.random
     it.place = random.choice(PLACES)
     it.type, it.value, traits = random.choice(TYPES)
+    if program.is_crowded:
+        it.place, (it.type, it.value, traits) = PLACES[0], random.choice([one for one in TYPES if one[0] in SMALL])
     if it.place.traits == "functions":
         it.type, it.value, traits = random.choice(TYPES[:2])
     elif it.place.traits == "object":

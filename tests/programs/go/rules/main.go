@@ -53,6 +53,14 @@ func crosses(f func()) func() {
 	return func() { both(func() { crossOne(f) }, func() { crossTwo(f) }) }
 }
 
+func adds(it *int64) func() { return func() { atomic.AddInt64(it, 1) } }
+
+// Stores a key that stays in the map when it is deleted.
+func storeForGood() {
+	keys.Store(1, 0)
+	keys.Range(func(key, value any) bool { return true })
+}
+
 // A look and a change with somebody else's change between them.
 func lookAndChange(look func() int64, change func(int64)) {
 	seen := look()
@@ -546,6 +554,9 @@ var words = map[string]func(){
 	"cond":          func() { both(waiter, signaller) },
 	"keys":          crosses(func() { keys.Load(1) }),
 	"key-follows":   func() { keys.Store(1, 0); follows(func() { keys.Store(1, 1) }, func() { keys.Load(1) })() },
+	"key-found":     func() { keys.Store(1, 0); follows(func() { keys.Store(1, 1) }, func() { keys.LoadOrStore(1, 2) })() },
+	"key-gone":      func() { storeForGood(); follows(func() { keys.Delete(1) }, func() { keys.LoadAndDelete(1) })() },
+	"local-atomic":  func() { it := new(int64); both(func() { crossOne(func() { *it++ }) }, func() { crossTwo(adds(it)) }) },
 	"add-cross":     crosses(func() { flag.Add(1) }),
 	"load-cross":    crosses(func() { flag.Load() }),
 	"failed-cross":  crosses(func() { flag.CompareAndSwap(5, 6) }),
