@@ -124,7 +124,7 @@ class Comparison:
             return
         wanted = [(step, operation, name) for step in group.steps for operation, name in self.program.events[step.number] if name not in self.variables]
         meeting = group.steps[0].meeting
-        if meeting and meeting.kind == "barrier":
+        if meeting and meeting.kind in ("barrier", "exchange"):
             # All arrivals come before all departures, but otherwise in any order.
             arrivals = len([line for line, _ in kept if line.operation == "w"])
             turn = any(line.operation == "r" for line, _ in kept[:arrivals])

@@ -9,13 +9,14 @@ class Step:
     """One event of a thread.
 
     `operation` is r, w, acq, rel, racq and rrel (of a lock for readers), fork, join, begin, end, nop, or one of MORE. `target`
-    is the variable, lock, label or thread. `partner` is the end of a begin and the release of an acquire, and the other way
-    round. `at_exit` says that pthread_exit or the like makes this end, at any time before the thread is joined.
+    is the variable, lock, label or thread, and `count` how many permits of a semaphore it takes or gives. `partner` is the end
+    of a begin and the release of an acquire, and the other way round. `at_exit` says that pthread_exit or the like makes this
+    end, at any time before the thread is joined.
     """
 
     def __init__(self, number, thread, operation, target=None):
         self.number, self.thread, self.operation, self.target = number, thread, operation, target
-        self.partner, self.meeting, self.at_exit = None, None, False
+        self.partner, self.meeting, self.at_exit, self.count = None, None, False, 1
 
     def __str__(self):
         if self.operation in ("end", "nop"):
@@ -33,7 +34,9 @@ class Meeting:
 class Trace:
     """A random trace of about `size` steps, with the operations of MORE that `features` names.
 
-    The features "twice" (locks that a thread takes twice) and "exit" (threads that end within blocks) change no list of MORE.
+    These features change no list of MORE: "twice" (locks that a thread takes twice), "exit" (threads that end within blocks),
+    "again" (waits for conditions of locks that are held several times or have readers too), "permits" (several permits at once),
+    "looks" (looks at queues and latches, and tries that fail) and "scopes" (locks that are held as a statement holds them).
     """
 
     def __init__(self, random, size, features=()):
@@ -44,15 +47,25 @@ class Trace:
         self.locks = ["l%d" % one for one in range(random.randint(1, 4))]
         self.shared = [one for one in self.locks if random.random() < 0.25]
         self.twice = [one for one in self.locks if one not in self.shared and random.random() < 0.3 and "twice" in self.features]
+        self.scoped = [one for one in self.locks if "scopes" in self.features and one not in self.shared and random.random() < 0.6]
+        self.scopes = {}    # by thread, the blocks that are open and the scoped locks that are held, as they are nested
         self.labels = ["L%d" % one for one in range(random.randint(2, 8))]
         self.most_threads, self.next_thread = random.randint(2, 5), 2
         self.live, self.ended = [1], []
         self.open_blocks = {1: []}
         self.held = {one: [] for one in self.locks}      # the acquires that have no release yet
-        self.things = {kind: [kind + str(one) for one in range(random.randint(1, 2))] for kind in MORE if kind in self.features}
+        self.things = {kind: [kind + str(one) for one in range(random.randint(1, 2))] for kind in self.some_kinds()}
         self.permits = {name: random.randint(0, 1) for name in self.things.get("semaphore", ())}
         self.at_first, self.filled = dict(self.permits), {}
         self.make()
+
+    def some_kinds(self):
+        """Returns the kinds of things of this trace. Of many kinds these are one or a few, so that each has several operations."""
+        kinds = [kind for kind in MORE if kind in self.features]
+        if len(kinds) < 9:
+            return kinds
+        some = self.random.sample([kind for kind in kinds if kind != "condition"], self.random.choice([1, 2, 4]))
+        return [kind for kind in kinds if kind in some or kind == "condition"]
 
     def make(self):
         """Adds random steps, and then those that end all threads."""
@@ -87,14 +100,22 @@ class Trace:
     def add_any(self, thread):
         """Adds a step, or none if the operation that is drawn isn't possible."""
         weights = [weight for weight, _ in OPERATIONS]
+        if "again" in self.features:
+            weights[-3:] = [8, 40, 40]      # more of nothing, as of tries that fail, and of the things of MORE
         self.random.choices([one for _, one in OPERATIONS], weights)[0](self, thread)
 
     def add_begin(self, thread):
         if len(self.open_blocks[thread]) < 3:
             self.open_blocks[thread].append(self.add(thread, "begin", self.random.choice(self.labels)))
+            self.scopes.setdefault(thread, []).append(None)
+            if self.scoped and self.random.random() < 0.3:
+                self.add_acquire(thread, self.scoped)
 
     def add_end(self, thread):
         if self.open_blocks[thread]:
+            while self.scopes[thread][-1]:
+                self.release(thread, self.scopes[thread].pop())
+            self.scopes[thread].pop()
             begin, end = self.open_blocks[thread].pop(), self.add(thread, "end")
             begin.partner, end.partner = end, begin
             if self.random.random() < 0.3:
@@ -125,8 +146,8 @@ class Trace:
         if step.operation == "r" and self.random.random() < 0.3:
             self.add(thread, "w", variable if self.random.random() < 0.5 else self.some_variable())
 
-    def add_acquire(self, thread):
-        lock = self.random.choice(self.locks)
+    def add_acquire(self, thread, locks=None):
+        lock = self.random.choice(locks or self.locks)
         held = self.held[lock]
         if not held:
             self.acquire(thread, lock, "racq" if lock in self.shared and self.random.random() < 0.4 else "acq")
@@ -134,6 +155,10 @@ class Trace:
             self.acquire(thread, lock, "acq")
         elif held[0].operation == "racq" and all(one.thread != thread for one in held):
             self.acquire(thread, lock, "racq")
+        else:
+            return
+        if lock in self.scoped:
+            self.scopes.setdefault(thread, []).append(lock)
 
     def acquire(self, thread, lock, operation):
         step = self.add(thread, operation, lock)
@@ -144,8 +169,15 @@ class Trace:
         return [lock for lock in self.locks for step in self.held[lock] if step.thread == thread]
 
     def add_release(self, thread):
-        if self.held_by(thread):
-            self.release(thread, self.random.choice(self.held_by(thread)))
+        held = self.held_by(thread)
+        if self.scoped:
+            last = self.scopes[thread][-1] if self.scopes.get(thread) else None
+            held = [one for one in held if one not in self.scoped or one == last]
+        if held:
+            lock = self.random.choice(held)
+            self.release(thread, lock)
+            if lock in self.scoped:
+                self.scopes[thread].pop()
 
     def release(self, thread, lock):
         acquire = [one for one in self.held[lock] if one.thread == thread][-1]
@@ -157,7 +189,8 @@ class Trace:
     def finish(self, thread):
         """Adds the steps that end a thread: its releases, the ends of its blocks and, if it leaves by pthread_exit, its join."""
         for lock in self.held_by(thread):
-            self.release(thread, lock)
+            if lock not in self.scoped:
+                self.release(thread, lock)
         if not any(step.thread == thread for step in self.steps):
             # Without an event, a fork and a join in one block would be no cycle, and with the scheduler's events they would.
             self.add(thread, "r", self.some_variable())
@@ -165,6 +198,8 @@ class Trace:
         first = len(self.steps)
         while self.open_blocks[thread]:
             self.add_end(thread)
+        while self.scopes.get(thread):
+            self.release(thread, self.scopes[thread].pop())
         if thread == 1:
             return
         self.live.remove(thread)
@@ -178,39 +213,85 @@ class Trace:
     # Operations of MORE.
 
     def add_more(self, thread):
-        kind = self.random.choice(sorted(self.things) + ["nop"])
+        kind = self.random.choice(sorted(self.things) + ["condition" if "again" in self.features else "nop"])
         if kind != "nop":
             MORE[kind](self, thread, self.random.choice(self.things[kind]))
 
+    def some_count(self, most):
+        """Returns a number of permits."""
+        return self.random.randint(1, min(most, 3)) if "permits" in self.features else 1
+
     def add_semaphore(self, thread, name):
-        if self.permits[name] and self.random.random() < 0.5:
-            self.permits[name] -= 1
+        if "looks" in self.features and self.random.random() < 0.2:
+            self.add(thread, "fail", name).count = self.permits[name] + 1
+        elif self.permits[name] and self.random.random() < 0.5:
+            step = self.add(thread, "take", name)
+            step.count = self.some_count(self.permits[name])
+            self.permits[name] -= step.count
             self.at_first[name] = 0
-            self.add(thread, "take", name)
         elif self.permits[name] < 4 and not self.at_first[name]:
-            self.permits[name] += 1
-            self.add(thread, "post", name)
+            step = self.add(thread, "post", name)
+            step.count = self.some_count(3)
+            self.permits[name] += step.count
 
     def add_once(self, thread, name):
         self.add(thread, "once", name)
 
     def add_queue(self, thread, name):
         puts, gets = self.filled.setdefault(name, [0, 0])
-        if puts > gets and self.random.random() < 0.5:
+        if "looks" in self.features and self.random.random() < 0.4:
+            self.add_look(thread, name, puts - gets)
+        elif puts > gets and self.random.random() < 0.5:
             self.filled[name][1] += 1
             self.add(thread, "get", name)
         elif puts - gets < 3:
             self.filled[name][0] += 1
             self.add(thread, "put", name)
 
+    def add_look(self, thread, name, inside):
+        """Adds a look at a queue, or takes all that is inside."""
+        some = ["drain", "drain", "clear"] if inside else ["miss", "drain"]
+        operation = self.random.choice(["empty", "count", "peek"] + some)
+        if operation in ("drain", "clear"):
+            self.filled[name][1] += inside
+        self.add(thread, operation, name)
+
+    def add_deque(self, thread, name):
+        """The same of a queue with two ends, from which objects may be pulled, too."""
+        puts, gets = self.filled.setdefault(name, [0, 0])
+        if self.random.random() < 0.5:
+            self.add_queue(thread, name)
+        elif puts > gets and self.random.random() < 0.5:
+            operation = self.random.choice(["get-last", "get-last", "pull", "peek-last"])
+            self.filled[name][1] += operation != "peek-last"
+            self.add(thread, operation, name)
+        elif puts - gets < 3:
+            self.filled[name][0] += 1
+            self.add(thread, "put-first", name)
+
     def add_latch(self, thread, name):
         """Counts a latch of two down, or waits for one that is open."""
         down = self.filled.setdefault(name, [0])
-        if down[0] < 2:
+        if "looks" in self.features and self.random.random() < 0.4:
+            self.add(thread, self.random.choice(["look", "late"] if down[0] == 2 else ["look", "fail"]), name)
+        elif down[0] < 2:
             down[0] += 1
             self.add(thread, "down", name)
         else:
             self.add(thread, "await", name)
+
+    def add_adder(self, thread, name):
+        self.add(thread, self.random.choice(["add", "add", "add", "sum", "sum", "reset"]), name)
+
+    def add_map(self, thread, name):
+        """Reads or writes a key of a map, or looks at the whole of it or changes that."""
+        self.add(thread, self.random.choice(["store", "store", "store", "fetch", "fetch", "view", "view", "wipe"]), name)
+
+    def add_future(self, thread, name):
+        """Completes a future, which counts once, or waits for one that is complete."""
+        done = self.filled.setdefault(name, [False])
+        self.add(thread, "see" if done[0] and self.random.random() < 0.7 else "complete", name)
+        done[0] = True
 
     def others(self, thread):
         return [one for one in self.live if one != thread]
@@ -239,22 +320,50 @@ class Trace:
             sender = self.random.choice(self.others(thread))
             self.meet("message", name, [(sender, "send"), (thread, "receive")])
 
+    def add_exchange(self, thread, name):
+        """Two threads exchange what they give."""
+        if self.others(thread):
+            here = [thread, self.random.choice(self.others(thread))]
+            self.meet("exchange", name, [(one, "give") for one in here] + [(one, "got") for one in here])
+
+    def add_park(self, thread, name):
+        """A thread that is parked goes on by the permit of another one."""
+        if self.others(thread):
+            waker = self.random.choice(self.others(thread))
+            self.meet("park", "park%d" % thread, [(waker, "unpark"), (thread, "park")])
+
     def add_condition(self, thread, name):
-        """A thread that holds a lock waits on a condition until another one that takes the lock wakes it."""
-        locks = [lock for lock in self.locks if lock not in self.shared and [one.thread for one in self.held[lock]] == [thread]]
+        """A thread that holds a lock waits on a condition until another one that takes the lock wakes it.
+
+        The feature "again" adds locks with readers, those that are held several times, and waits that nobody ends.
+        """
+        again = "again" in self.features
+        for _ in range(self.random.randint(0, 3) if again else 0):
+            self.add_acquire(thread, self.held_by(thread) or None)
+        locks = [lock for lock in self.locks if (again or lock not in self.shared) and self.is_held_by(thread, lock, again)]
         if not locks or not self.others(thread):
             return
         lock, waker = self.random.choice(locks), self.random.choice(self.others(thread))
-        meeting = Meeting("condition", lock)
-        meeting.steps = [self.release(thread, lock), self.acquire(waker, lock, "acq"), self.release(waker, lock), self.acquire(thread, lock, "acq")]
+        meeting, count = Meeting("condition", lock), len(self.held[lock])
+        meeting.steps = [self.release(thread, lock) for _ in range(count)]
+        if again and self.random.random() < 0.4:
+            meeting.steps += [self.acquire(thread, lock, "acq") for _ in range(count)]
+            return
+        meeting.steps += [self.acquire(waker, lock, "acq"), self.release(waker, lock)]
+        meeting.steps += [self.acquire(thread, lock, "acq") for _ in range(count)]
         for step in meeting.steps:
             step.meeting = meeting
 
+    def is_held_by(self, thread, lock, again):
+        """Returns whether a thread holds a lock as a writer: once, or if `again` as often as you like."""
+        held = [(one.thread, one.operation) for one in self.held[lock]]
+        return bool(held) and held == [(thread, "acq")] * (len(held) if again else 1)
 
-#: The kinds of things beside variables and locks, and what adds an operation of them. The operations are post and take of a
-#: semaphore, put and get of a queue, down and await of a latch, once, and in meetings arrive, leave, send and receive.
+
+#: The kinds of things beside variables and locks, and what adds an operation of them. Each function of Trace has its operations.
 MORE = {"semaphore": Trace.add_semaphore, "once": Trace.add_once, "queue": Trace.add_queue, "latch": Trace.add_latch,
-        "barrier": Trace.add_barrier, "message": Trace.add_message, "condition": Trace.add_condition}
+        "barrier": Trace.add_barrier, "message": Trace.add_message, "condition": Trace.add_condition, "deque": Trace.add_deque,
+        "adder": Trace.add_adder, "map": Trace.add_map, "future": Trace.add_future, "exchange": Trace.add_exchange, "park": Trace.add_park}
 
 OPERATIONS = [(12, Trace.add_begin), (10, Trace.add_end), (4, Trace.add_fork), (2, Trace.add_exit), (2, Trace.add_join),
               (13, Trace.add_acquire), (12, Trace.add_release), (3, Trace.add_nothing), (40, Trace.add_access), (9, Trace.add_more)]
