@@ -64,7 +64,8 @@ class Trace:
         kinds = [kind for kind in MORE if kind in self.features]
         if len(kinds) < 9:
             return kinds
-        some = self.random.sample([kind for kind in kinds if kind != "condition"], self.random.choice([1, 2, 4]))
+        # Two of them twice: what they do depends on most of the operations before.
+        some = self.random.sample([kind for kind in kinds if kind != "condition"] + ["deque", "semaphore"], self.random.choice([1, 2, 4]))
         return [kind for kind in kinds if kind in some or kind == "condition"]
 
     def make(self):
@@ -261,8 +262,8 @@ class Trace:
         puts, gets = self.filled.setdefault(name, [0, 0])
         if self.random.random() < 0.5:
             self.add_queue(thread, name)
-        elif puts > gets and self.random.random() < 0.5:
-            operation = self.random.choice(["get-last", "get-last", "pull", "peek-last"])
+        elif puts - gets > 1 and self.random.random() < 0.7:
+            operation = self.random.choice(["get-last", "get-last", "pull", "pull-last", "peek-last"])
             self.filled[name][1] += operation != "peek-last"
             self.add(thread, operation, name)
         elif puts - gets < 3:

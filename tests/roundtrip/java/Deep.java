@@ -31,6 +31,9 @@ public class Deep {
         level = levels[1] + 1;
         return writing(a + 1) + 1;
     }
+    /** No block, unlike what it calls: if that can't end, only who catches the error can end it. */
+    static long lower(long a) { return shallow(a) + lower(a + 1); }
+    private static long shallow(long a) { return a; }
     /** Through a second method, which is synchronized. */
     long turned(long a) {
         turns++;

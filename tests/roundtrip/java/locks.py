@@ -35,7 +35,7 @@ KINDS = [
     Kind("ReentrantReadWriteLock", "new ReentrantReadWriteLock()", "ReentrantReadWriteLock", READ_WRITE, "readwrite", "shared", 1),
     Kind("fair ReentrantReadWriteLock", "new ReentrantReadWriteLock(true)", "ReentrantReadWriteLock", READ_WRITE, "readwrite", "shared", 1),
     Kind("class that extends ReentrantReadWriteLock", "new M$n()", "M$n", READ_WRITE, "readwrite", "shared", 1, "class M$n extends ReentrantReadWriteLock { }"),
-    Kind("StampedLock", "new StampedLock()", "StampedLock", r"StampedLock@\d+", "stamped", "shared -waited", 2),
+    Kind("StampedLock", "new StampedLock()", "StampedLock", r"StampedLock@\d+", "stamped", "shared -waited", 4),
 ]
 
 #: How a lock is taken: $m is the lock, $side its side of a read-write lock, $stamp the number of the acquire. A StampedLock is taken
@@ -78,8 +78,8 @@ FAILURES = forms([
     ("tryWriteLock that fails", "if ($m.tryWriteLock() != 0) throw new Error();", "stamped"),
     ("tryWriteLock with a time that fails", "if ($m.tryWriteLock(1, TimeUnit.MILLISECONDS) != 0) throw new Error();", "stamped"),
     ("tryLock of a view that fails", "if ($m.asWriteLock().tryLock()) throw new Error();", "stamped"),
-    ("validate that fails", "if ($m.validate(0)) throw new Error();", "stamped"),
-    ("tryOptimisticRead that fails", "if ($m.tryOptimisticRead() != 0) throw new Error();", "stamped written"),
+    ("validate that fails", "if ($m.validate(0)) throw new Error();", "stamped", 4),
+    ("tryOptimisticRead that fails", "if ($m.tryOptimisticRead() != 0) throw new Error();", "stamped written", 4),
     ("tryReadLock that fails", "if ($m.tryReadLock() != 0) throw new Error();", "stamped written"),
     ("tryLock of the readers' side that fails", "if ($m.readLock().tryLock()) throw new Error();", "readwrite written"),
 ])

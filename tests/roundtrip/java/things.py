@@ -34,7 +34,7 @@ def interrupted(name, call):
 SEMAPHORE = {
     "post": forms(calls(["release()"], "one") + calls(["release($count)"])),
     "take": forms(calls(["acquire()", "acquireUninterruptibly()"], "one") + calls(["acquire($count)", "acquireUninterruptibly($count)"]) + [
-        ("drainPermits", "if ($k.drainPermits() != $count) throw new Error();", "all"), refused("tryAcquire", "tryAcquire() == false", "one"),
+        ("drainPermits", "if ($k.drainPermits() != $count) throw new Error();", "all", 4), refused("tryAcquire", "tryAcquire() == false", "one"),
         refused("tryAcquire of several", "tryAcquire($count) == false"), refused("tryAcquire with a time", "tryAcquire($count, 99, TimeUnit.SECONDS) == false")]),
     "fail": forms(looks(["availablePermits()"]) + [
         refused("tryAcquire that fails", "tryAcquire($count)"), refused("tryAcquire with a time that fails", "tryAcquire($count, 1, TimeUnit.MILLISECONDS)"),
@@ -177,7 +177,7 @@ def make_thing(program, kind, number, name):
     it = Thing(number, name)
     it.kind, it.log_name = program.random.choice(OTHERS[kind]), None
     it.traits = set(it.kind.traits.split())
-    it.keys = program.random.choice([one for one in KEYS if "sorted" not in it.traits or one not in ("object", "same", "record")])
+    it.keys = program.random.choice(KEYS[:-3] if "sorted" in it.traits else KEYS + 2 * KEYS[-3:])
     at = 1100 + 50 * sorted(OTHERS).index(kind) + number
     new = string.Template(it.kind.new).safe_substitute(first=program.first_permits.get(name, 0))
     if "$count" not in new:

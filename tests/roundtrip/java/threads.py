@@ -56,6 +56,7 @@ NOTHING = forms([("work of its own", "{ int[] l = null; Stage.use(l); }"), ("yie
                   "Stage.interrupt(); try { ((Thread) Stage.at($at)).join(); throw new Error(); } catch (InterruptedException e) { }", "alive", 4),
                  ("start of a thread that runs", "try { ((Thread) Stage.at($at)).start(); throw new Error(); } catch (IllegalThreadStateException e) { }",
                   "alive", 4),
+                 ("a full stack", "try { Deep.lower(1); throw new IllegalStateException(); } catch (StackOverflowError e) { Stage.full(e); }"),
                  ("interrupt of oneself", "Stage.interrupt(); Stage.use(Thread.interrupted());")])
 
 
