@@ -91,7 +91,7 @@ PUT, DROP = "Stage.with($at, $key); ", "Stage.without($at, $key); "
 
 def giving(name, before, call, result, needs=""):
     """A call that has to give this result, behind a text that makes sure of what it finds."""
-    return name, before + "if (!Objects.equals($k.%s, %s)) throw new Error();" % (call, result), needs
+    return name, before + "if (!Objects.equals($k.%s, %s)) throw new Error();" % (call, result), needs, 3
 
 
 MAP = {
