@@ -134,7 +134,7 @@ class Comparison:
             self.wait_for(group, wanted, kept)
             return
         meeting = group.steps[0].meeting
-        if meeting and meeting.kind == "barrier":
+        if meeting and meeting.kind in ("barrier", "exchange"):
             # All arrivals come before all departures, but otherwise in any order.
             arrivals = len([line for line, _ in kept if line.operation == "w"])
             turn = any(line.operation == "r" for line, _ in kept[:arrivals])

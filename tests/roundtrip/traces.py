@@ -9,13 +9,14 @@ class Step:
     """One event of a thread.
 
     `operation` is r, w, acq, rel, racq and rrel (of a lock for readers), fork, join, begin, end, nop, or one of MORE. `target`
-    is the variable, lock, label or thread. `partner` is the end of a begin and the release of an acquire, and the other way
-    round. `at_exit` says that pthread_exit or the like makes this end or release, at any time before the thread is joined.
+    is the variable, lock, label or thread, and `count` how many permits of a semaphore it takes or gives. `partner` is the end
+    of a begin and the release of an acquire, and the other way round. `at_exit` says that pthread_exit or the like makes this
+    end or release, at any time before the thread is joined.
     """
 
     def __init__(self, number, thread, operation, target=None):
         self.number, self.thread, self.operation, self.target = number, thread, operation, target
-        self.partner, self.meeting, self.at_exit = None, None, False
+        self.partner, self.meeting, self.at_exit, self.count = None, None, False, 1
 
     def __str__(self):
         if self.operation in ("end", "nop"):
@@ -35,7 +36,9 @@ class Trace:
 
     These features change no list of MORE: "twice" (locks that a thread takes twice), "exit" and "exit of main" (threads that end within
     blocks), "left" (that may then hold locks), "spare" (semaphores that are posted while they have permits of their first ones), "shared
-    condition" (conditions of locks for readers) and "waiters" (operations of Go's things for which another thread waits).
+    condition" (conditions of locks for readers), "waiters" (operations of Go's things for which another thread waits), "again" (waits
+    for conditions of locks that are held several times or have readers too), "permits" (several permits at once), "looks" (looks at
+    queues and latches, and tries that fail) and "scopes" (locks that are held as a statement holds them).
     Operations of MORE are drawn `often` times as often as without it, and if that is more than once, then several of a thing at once.
     """
 
@@ -48,17 +51,28 @@ class Trace:
         self.shared = [one for one in self.locks if random.random() < 0.25]
         self.twice = [one for one in self.locks if one not in self.shared and random.random() < 0.3 and "twice" in self.features]
         self.robust = [one for one in self.locks if "left" in self.features and one not in self.shared + self.twice and random.random() < 0.4]
+        self.scoped = [one for one in self.locks if "scopes" in self.features and one not in self.shared and random.random() < 0.6]
+        self.scopes = {}    # by thread, the blocks that are open and the scoped locks that are held, as they are nested
         self.labels = ["L%d" % one for one in range(random.randint(2, 8))]
         self.most_threads, self.next_thread = random.randint(2, 5), 2
         self.live, self.ended = [1], []
         self.open_blocks = {1: []}
         self.held = {one: [] for one in self.locks}      # the acquires that have no release yet
-        self.things = {kind: [kind + str(one) for one in range(random.randint(1, 2))] for kind in MORE if kind in self.features}
+        self.things = {kind: [kind + str(one) for one in range(random.randint(1, 2))] for kind in self.some_kinds()}
         self.permits = {name: random.randint(0, 2 if "spare" in self.features else 1) for name in self.things.get("semaphore", ())}
         self.slots = {name: random.choice((0, 1, 2, 3, 3)) for name in self.things.get("channel", ())}
         self.first_permits, self.at_first = dict(self.permits), dict(self.permits)
         self.filled, self.closed, self.locked_by = {}, set(), {}
         self.make()
+
+    def some_kinds(self):
+        """Returns the kinds of things of this trace. Of many kinds these are one or a few, so that each has several operations."""
+        kinds = [kind for kind in MORE if kind in self.features]
+        if "again" not in self.features:
+            return kinds
+        # Two of them twice: what they do depends on most of the operations before.
+        some = self.random.sample([kind for kind in kinds if kind != "condition"] + ["deque", "semaphore"], self.random.choice([1, 2, 4]))
+        return [kind for kind in kinds if kind in some or kind == "condition"]
 
     def make(self):
         """Adds random steps, and then those that end all threads."""
@@ -93,14 +107,22 @@ class Trace:
     def add_any(self, thread):
         """Adds a step, or none if the operation that is drawn isn't possible."""
         weights = [weight * (self.often if one is Trace.add_more else 1) for weight, one in OPERATIONS]
+        if "again" in self.features:
+            weights[-3:] = [8, 40, 40]      # more of nothing, as of tries that fail, and of the things of MORE
         self.random.choices([one for _, one in OPERATIONS], weights)[0](self, thread)
 
     def add_begin(self, thread):
         if len(self.open_blocks[thread]) < 3:
             self.open_blocks[thread].append(self.add(thread, "begin", self.random.choice(self.labels)))
+            self.scopes.setdefault(thread, []).append(None)
+            if self.scoped and self.random.random() < 0.3:
+                self.add_acquire(thread, self.scoped)
 
     def add_end(self, thread):
         if self.open_blocks[thread]:
+            while self.scopes[thread][-1]:
+                self.release(thread, self.scopes[thread].pop())
+            self.scopes[thread].pop()
             begin, end = self.open_blocks[thread].pop(), self.add(thread, "end")
             begin.partner, end.partner = end, begin
             if self.random.random() < 0.3:
@@ -136,8 +158,8 @@ class Trace:
         if step.operation == "r" and self.random.random() < 0.3:
             self.add(thread, "w", variable if self.random.random() < 0.5 else self.some_variable())
 
-    def add_acquire(self, thread):
-        lock = self.random.choice(self.locks)
+    def add_acquire(self, thread, locks=None):
+        lock = self.random.choice(locks or self.locks)
         held = self.held[lock]
         if not held:
             self.acquire(thread, lock, "racq" if lock in self.shared and self.random.random() < 0.4 else "acq")
@@ -145,6 +167,10 @@ class Trace:
             self.acquire(thread, lock, "acq")
         elif held[0].operation == "racq" and all(one.thread != thread for one in held):
             self.acquire(thread, lock, "racq")
+        else:
+            return
+        if lock in self.scoped:
+            self.scopes.setdefault(thread, []).append(lock)
 
     def acquire(self, thread, lock, operation):
         step = self.add(thread, operation, lock)
@@ -155,8 +181,14 @@ class Trace:
         return [lock for lock in self.locks for step in self.held[lock] if step.thread == thread]
 
     def add_release(self, thread):
-        if self.held_by(thread):
-            step = self.release(thread, self.random.choice(self.held_by(thread)))
+        held = self.held_by(thread)
+        if self.scoped:
+            last = self.scopes[thread][-1] if self.scopes.get(thread) else None
+            held = [one for one in held if one not in self.scoped or one == last]
+        if held:
+            step = self.release(thread, self.random.choice(held))
+            if step.target in self.scoped:
+                self.scopes[thread].pop()
             if "bytes" in self.things and not self.held[step.target] and step.operation == "rel" and self.random.random() < 0.15:
                 # (as a wait that runs out does)
                 self.acquire(thread, step.target, "acq")
@@ -172,7 +204,7 @@ class Trace:
         """Adds the steps that end a thread: its releases, the ends of its blocks and, if it leaves by pthread_exit, its join."""
         left = [lock for lock in self.held_by(thread) if lock in self.robust and self.open_blocks[thread] and thread != 1]
         for lock in self.held_by(thread):
-            if lock not in left:
+            if lock not in left and lock not in self.scoped:
                 self.release(thread, lock)
         for name in [name for name, owner in self.locked_by.items() if owner == thread]:
             self.add_handed(thread, name)
@@ -188,6 +220,8 @@ class Trace:
         first = len(self.steps)
         while self.open_blocks[thread]:
             self.add_end(thread)
+        while self.scopes.get(thread):
+            self.release(thread, self.scopes[thread].pop())
         for lock in left:
             self.release(thread, lock)
         if leaves:
@@ -204,7 +238,7 @@ class Trace:
     # Operations of MORE.
 
     def add_more(self, thread):
-        kind = self.random.choice(sorted(self.things) + ["nop"] + (["condition"] * 4 + ["semaphore"] * 3 if "bytes" in self.things else []))
+        kind = self.random.choice(sorted(self.things) + self.more_kinds())
         if kind == "nop":
             return
         name = self.random.choice(self.things[kind])
@@ -212,14 +246,28 @@ class Trace:
         while self.often > 1 and self.random.random() < 0.7:
             MORE[kind](self, self.random.choice(self.live), name)
 
+    def more_kinds(self):
+        """Returns the kinds that are drawn beside one of each of this trace."""
+        if "bytes" in self.things:
+            return ["nop"] + ["condition"] * 4 + ["semaphore"] * 3
+        return ["condition" if "again" in self.features else "nop"]
+
+    def some_count(self, most):
+        """Returns a number of permits."""
+        return self.random.randint(1, min(most, 3)) if "permits" in self.features else 1
+
     def add_semaphore(self, thread, name):
-        if self.permits[name] and self.random.random() < 0.5:
-            self.permits[name] -= 1
+        if "looks" in self.features and self.random.random() < 0.2:
+            self.add(thread, "fail", name).count = self.permits[name] + 1
+        elif self.permits[name] and self.random.random() < 0.5:
+            step = self.add(self.who(thread, name, "take"), "take", name)
+            step.count = self.some_count(self.permits[name])
+            self.permits[name] -= step.count
             self.at_first[name] = 0
-            self.add(self.who(thread, name, "take"), "take", name)
         elif self.permits[name] < 4 and ("spare" in self.features or not self.at_first[name]):
-            self.permits[name] += 1
-            self.add(self.who(thread, name, "post"), "post", name)
+            step = self.add(self.who(thread, name, "post"), "post", name)
+            step.count = self.some_count(3)
+            self.permits[name] += step.count
 
     def who(self, thread, name, operation):
         """Returns the thread that does an operation: with "spare", the first semaphore has one for each, as long as it is there."""
@@ -242,17 +290,42 @@ class Trace:
 
     def add_queue(self, thread, name):
         puts, gets = self.filled.setdefault(name, [0, 0])
-        if puts > gets and self.random.random() < 0.5:
+        if "looks" in self.features and self.random.random() < 0.4:
+            self.add_look(thread, name, puts - gets)
+        elif puts > gets and self.random.random() < 0.5:
             self.filled[name][1] += 1
             self.add(thread, "get", name)
         elif puts - gets < 3:
             self.filled[name][0] += 1
             self.add(thread, "put", name)
 
+    def add_look(self, thread, name, inside):
+        """Adds a look at a queue, or takes all that is inside."""
+        some = ["drain", "drain", "clear"] if inside else ["miss", "drain"]
+        operation = self.random.choice(["empty", "count", "peek"] + some)
+        if operation in ("drain", "clear"):
+            self.filled[name][1] += inside
+        self.add(thread, operation, name)
+
+    def add_deque(self, thread, name):
+        """The same of a queue with two ends, from which objects may be pulled, too."""
+        puts, gets = self.filled.setdefault(name, [0, 0])
+        if self.random.random() < 0.5:
+            self.add_queue(thread, name)
+        elif puts - gets > 1 and self.random.random() < 0.7:
+            operation = self.random.choice(["get-last", "get-last", "pull", "pull-last", "peek-last"])
+            self.filled[name][1] += operation != "peek-last"
+            self.add(thread, operation, name)
+        elif puts - gets < 3:
+            self.filled[name][0] += 1
+            self.add(thread, "put-first", name)
+
     def add_latch(self, thread, name):
         """Counts a latch of two down, or waits for one that is open."""
         down = self.filled.setdefault(name, [0])
-        if down[0] < 2:
+        if "looks" in self.features and self.random.random() < 0.4:
+            self.add(thread, self.random.choice(["look", "late"] if down[0] == 2 else ["look", "fail"]), name)
+        elif down[0] < 2:
             down[0] += 1
             self.add(thread, "down", name)
         else:
@@ -318,8 +391,21 @@ class Trace:
         meeting = self.meet("wait", target, [(thread, operation)] + [(thread, "end")] * ends + [(self.random.choice(self.others(thread)), waits)])
         for end in meeting.steps[1:-1]:
             begin = self.open_blocks[thread].pop()
+            self.scopes[thread].pop()
             begin.partner, end.partner, end.target = end, begin, None
         return 1
+    def add_adder(self, thread, name):
+        self.add(thread, self.random.choice(["add", "add", "add", "sum", "sum", "reset"]), name)
+
+    def add_map(self, thread, name):
+        """Reads or writes a key of a map, or looks at the whole of it or changes that."""
+        self.add(thread, self.random.choice(["store", "store", "store", "fetch", "fetch", "view", "view", "wipe"]), name)
+
+    def add_future(self, thread, name):
+        """Completes a future, which counts once, or waits for one that is complete."""
+        done = self.filled.setdefault(name, [False])
+        self.add(thread, "see" if done[0] and self.random.random() < 0.7 else "complete", name)
+        done[0] = True
 
     def others(self, thread):
         return [one for one in self.live if one != thread]
@@ -354,10 +440,28 @@ class Trace:
             sender = self.random.choice(self.others(thread))
             self.meet("message", name, [(sender, "send"), (thread, "receive")])
 
+    def add_exchange(self, thread, name):
+        """Two threads exchange what they give."""
+        if self.others(thread):
+            here = [thread, self.random.choice(self.others(thread))]
+            self.meet("exchange", name, [(one, "give") for one in here] + [(one, "got") for one in here])
+
+    def add_park(self, thread, name):
+        """A thread that is parked goes on by the permit of another one."""
+        if self.others(thread):
+            waker = self.random.choice(self.others(thread))
+            self.meet("park", "park%d" % thread, [(waker, "unpark"), (thread, "park")])
+
     def add_condition(self, thread, name):
-        """A thread that holds a lock waits on a condition until another one that takes the lock wakes it."""
-        locks = [lock for lock in self.locks if (lock not in self.shared or "shared condition" in self.features)
-                 and [(one.thread, one.operation) for one in self.held[lock]] == [(thread, "acq")]]
+        """A thread that holds a lock waits on a condition until another one that takes the lock wakes it.
+
+        The feature "again" adds locks with readers, those that are held several times, and waits that nobody ends.
+        """
+        again = "again" in self.features
+        for _ in range(self.random.randint(0, 3) if again else 0):
+            self.add_acquire(thread, self.held_by(thread) or None)
+        possible = [lock for lock in self.locks if again or lock not in self.shared or "shared condition" in self.features]
+        locks = [lock for lock in possible if self.is_held_by(thread, lock, again)]
         free = [lock for lock in self.locks if lock not in self.shared and not self.held[lock]] if "bytes" in self.things else []
         if free and not locks and self.others(thread):
             locks = [self.random.choice(free)]
@@ -365,21 +469,28 @@ class Trace:
         if not locks or not self.others(thread):
             return
         lock, waker = self.random.choice(locks), self.random.choice(self.others(thread))
-        meeting = Meeting("condition", lock)
-        meeting.steps = [self.release(thread, lock), self.acquire(waker, lock, "acq"), self.release(waker, lock), self.acquire(thread, lock, "acq")]
+        meeting, count = Meeting("condition", lock), len(self.held[lock])
+        meeting.steps = [self.release(thread, lock) for _ in range(count)]
+        if again and self.random.random() < 0.4:
+            meeting.steps += [self.acquire(thread, lock, "acq") for _ in range(count)]
+            return
+        meeting.steps += [self.acquire(waker, lock, "acq"), self.release(waker, lock)]
+        meeting.steps += [self.acquire(thread, lock, "acq") for _ in range(count)]
         for step in meeting.steps:
             step.meeting = meeting
 
+    def is_held_by(self, thread, lock, again):
+        """Returns whether a thread holds a lock as a writer: once, or if `again` as often as you like."""
+        held = [(one.thread, one.operation) for one in self.held[lock]]
+        return bool(held) and held == [(thread, "acq")] * (len(held) if again else 1)
 
-#: The kinds of things beside variables and locks, and what adds an operation of them. The operations are post and take of a
-#: semaphore, put and get of a queue, down and await of a latch, once, touch of bytes, lock and unlock of a mutex that threads hand on,
-#: before and after of an order that is said, and in meetings arrive, leave, send, receive, open, look and close. Those of Go's own kinds
-#: are up1, up2, down1, down2 and await of rounds, put, get, close and pass (a receive once it is closed) of a channel, and set, tick and
-#: after of timers.
+
+#: The kinds of things beside variables and locks, and what adds an operation of them. Each function of Trace has its operations.
 MORE = {"semaphore": Trace.add_semaphore, "once": Trace.add_once, "queue": Trace.add_queue, "latch": Trace.add_latch,
         "bytes": Trace.add_touch, "handed": Trace.add_handed, "sync": Trace.add_sync, "frame": Trace.add_frame,
         "barrier": Trace.add_barrier, "message": Trace.add_message, "condition": Trace.add_condition, "rounds": Trace.add_rounds,
-        "channel": Trace.add_channel, "timer": Trace.add_timer}
+        "channel": Trace.add_channel, "timer": Trace.add_timer, "deque": Trace.add_deque, "adder": Trace.add_adder,
+        "map": Trace.add_map, "future": Trace.add_future, "exchange": Trace.add_exchange, "park": Trace.add_park}
 
 OPERATIONS = [(12, Trace.add_begin), (10, Trace.add_end), (4, Trace.add_fork), (2, Trace.add_exit), (2, Trace.add_join),
               (13, Trace.add_acquire), (12, Trace.add_release), (3, Trace.add_nothing), (40, Trace.add_access), (9, Trace.add_more)]

@@ -6,6 +6,7 @@ import java.util.concurrent.ExecutorService;
 import java.util.concurrent.Executor;
 import java.util.concurrent.Executors;
 import java.util.concurrent.ForkJoinPool;
+import java.util.concurrent.FutureTask;
 import java.util.concurrent.RecursiveAction;
 import java.util.concurrent.RecursiveTask;
 import java.util.concurrent.ScheduledExecutorService;
@@ -100,7 +101,15 @@ public class Given {
         third.complete("b");
         third.getNow(null);
         ((ExecutorService) pool).shutdown();
-        step = 18; //:
+        step = 18; //: es
+        CompletableFuture<Object> fourth = new CompletableFuture<>();
+        fourth.complete("c");
+        if (fourth.cancel(true)) throw new Error();
+        step = 19; //: es
+        FutureTask<Object> task = new FutureTask<>(() -> 1);
+        task.run();
+        if (task.cancel(true)) throw new Error();
+        step = 20; //:
     }
 
     public static void main(String[] words) throws Exception {

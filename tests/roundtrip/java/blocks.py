@@ -32,6 +32,7 @@ KINDS = [
     nested("a method of an inner class", "class $k { long $f() throws Exception $whole }", ONE + ".new $k().$f()"),
     nested("a method of a generic class", "static class $k<A> { A a; <B> long $f(A a, B b) throws Exception $whole }", 'new $p.$k<String>().$f("a", 1)'),
     beside("a default method", "interface $k { default long $f() throws Exception $whole }", "new $k() { }.$f()"),
+    beside("a static method of an interface", "interface $k { static long $f() throws Exception $whole }", "$k.$f()"),
     beside("a method of an enum", "enum $k { ONE; long $f() throws Exception $whole }", "$k.ONE.$f()"),
     beside("a method of a record", "record $k(int a) { long $f() throws Exception $whole }", "new $k(3).$f()"),
     beside("a method that overrides another", "abstract class A$k { abstract long $f() throws Exception; } "

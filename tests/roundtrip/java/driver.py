@@ -1,26 +1,29 @@
 """Compiles, runs and compares programs in Java."""
 import os
 import random
+import re
 import shutil
 from concurrent.futures import ThreadPoolExecutor
 
 import compare
 import driver
-from java.names import Names
+from java.names import Names, without_overflows
 from java.program import JavaProgram
 from traces import Trace
 
-FEATURES = ("twice", "semaphore", "latch", "queue", "barrier", "message", "condition")
+FEATURES = ("twice", "semaphore", "latch", "queue", "barrier", "message", "condition", "deque", "adder", "map", "future", "exchange", "park",
+            "again", "permits", "looks", "scopes")
 QUICK = ["-XX:+UseSerialGC", "-XX:TieredStopAtLevel=1"]
-NO_BLOCKS = "main,run,call,<init>,<clinit>,Mark.step,$p.thread*,$p.body*,$p.lambda$*"
+FILES = ("Stage", "Mark", "Twin", "Deep")
+NO_BLOCKS = "main,run,call,<init>,<clinit>,lower,lock,unlock,tryLock,lockInterruptibly,newCondition,Mark.step,$p.thread*,$p.body*,$p.lambda$*,B*,Twin.*"
 
 
 def compiled(program, folder):
-    for name in ("Stage.java", "Mark.java"):
-        shutil.copy(os.path.join(driver.HERE, "java", name), folder)
+    for name in FILES:
+        shutil.copy(os.path.join(driver.HERE, "java", name + ".java"), folder)
     driver.write("%s/%s.java" % (folder, program.name), program.text())
     driver.built(["javac", "-nowarn"] + ["-J" + one for one in QUICK] + ["-d", folder] + [
-        "%s/%s.java" % (folder, name) for name in (program.name, "Stage", "Mark")])
+        "%s/%s.java" % (folder, name) for name in (program.name,) + FILES])
 
 
 def differences_of(options, seed, folder):
@@ -32,15 +35,17 @@ def differences_of(options, seed, folder):
     driver.write(folder + "/trace.std", "".join(line + "\n" for _, line in program.lines()))
     compiled(program, folder)
     agent = "%s/lib/aerodrome/aerodrome-agent.jar" % options.tree
-    wanted = "log=%s/marked.log,skip=Stage,blocks=-%s" % (folder, NO_BLOCKS.replace("$p", program.name))
+    wanted = "log=%s/marked.log,skip=Stage,blocks=-%s" % (folder, ",".join([NO_BLOCKS.replace("$p", program.name)] + program.no_blocks))
     status, _, said = driver.call(["java"] + QUICK + (options.flags or "").split() + ["-cp", folder, "-javaagent:%s=%s" % (agent, wanted), program.name],
                                   {"STAGE_MARKS": "1"})
-    said = "\n".join(line for line in said.splitlines() if "no method is called" not in line)
+    said = "\n".join(line for line in said.splitlines() if not re.search("no method is called|no block is logged", line))
     if status or said:
         return [compare.Difference("failure", None, "the run", "status 0", "status %d %s" % (status, said[:900]))]
     names = Names(program)
-    comparison = compare.Comparison(trace, program, compare.windows_of(compare.lines_of(folder + "/marked.log"), names.step_of_mark), names)
-    return comparison.run() + driver.compare_verdicts(options.checker, folder + "/trace.std", folder + "/marked.log", program, comparison)
+    lines = without_overflows(compare.lines_of(folder + "/marked.log"))
+    comparison = compare.Comparison(trace, program, compare.windows_of(lines, names.step_of_mark), names)
+    found = comparison.run() + list(names.missing_tasks(comparison))
+    return found + driver.compare_verdicts(options.checker, folder + "/trace.std", folder + "/marked.log", program, comparison)
 
 
 def run(options, seeds):

@@ -20,32 +20,80 @@ Place = namedtuple("Place", "name x pattern traits field beside start needs", de
 
 OBJECT = "Stage.put($n, new $b());"
 FIELD = r"$b\.f@\d+"
-HANDLE = "class $b { int f; static final VarHandle V; static { try { V = MethodHandles.lookup().findVarHandle($b.class, \"f\", int.class); } " \
-    "catch (ReflectiveOperationException e) { throw new Error(e); } } }"
-UPDATER = "class $b { volatile int f; static final AtomicIntegerFieldUpdater<$b> V = AtomicIntegerFieldUpdater.newUpdater($b.class, \"f\"); }"
+MADE = "static { try { %s } catch (ReflectiveOperationException e) { throw new Error(e); } }"
+FIND = "MethodHandles.lookup().findVarHandle($b.class, \"f\", int.class)"
+#: How a VarHandle of a field is made.
+FOUND = [("", FIND), (" by privateLookupIn", FIND.replace("lookup()", "privateLookupIn($b.class, MethodHandles.lookup())")),
+         (" by unreflectVarHandle", 'MethodHandles.lookup().unreflectVarHandle($b.class.getDeclaredField("f"))')]
+
+
+def handled(declared, made):
+    return "class $b { %s static final VarHandle V; %s }" % (declared, MADE % ("V = %s;" % made))
+
+
+def updater(kind, of, type):
+    return "class $b { volatile %s f; static final Atomic%sFieldUpdater%s V = Atomic%sFieldUpdater.newUpdater($b.class, \"f\"); }" % (type, kind, of, kind)
+
+
+REFERENCE_UPDATER = updater("Reference", "<$b, Object>", "Object").replace('$b.class, "f"', '$b.class, Object.class, "f"')
+UNSAFE = "class $b { int f; static final sun.misc.Unsafe V; static final long F; " + MADE % (
+    'var f = sun.misc.Unsafe.class.getDeclaredField("theUnsafe"); f.setAccessible(true); V = (sun.misc.Unsafe) f.get(null); '
+    'F = V.objectFieldOffset($b.class.getDeclaredField("f"));') + " }"
+SYNCHRONIZER = "class $b extends Stage.Synchronizer { int state() { return getState(); } void state(int a) { setState(a); } " \
+    "boolean swap(int a, int b) { return compareAndSetState(a, b); } }"
+
+
+def atomic(name, traits, argument="", pattern=r"@\d+"):
+    type = name + ("<Object>" if "Reference" in name else "")
+    return Place("an " + name, "((%s) Stage.at($n))" % type, name + pattern, traits, start="Stage.put($n, new %s(%s));" % (type, argument))
+
+
 PLACES = [
     Place("a static field", "$p.s$n", r"$p\.s$n", field="static $type s$n;"),
     Place("a volatile static field", "$p.s$n", r"$p\.s$n", field="static volatile $type s$n;"),
     Place("a static field of another class", "$b.s", r"$b\.s", beside="class $b { static $type s; }"),
+    Place("an inherited static field", "$b.s", r"A$n\.s", beside="class A$n { static $type s; } class $b extends A$n { }"),
     Place("a field", "(($b) Stage.at($n)).f", FIELD, beside="class $b { $type f; int g; }", start=OBJECT),
     Place("a volatile field", "(($b) Stage.at($n)).f", FIELD, beside="class $b { volatile $type f; int g; }", start=OBJECT),
-    Place("an inherited field", "(($b) Stage.at($n)).f", r"($b|A$n)\.f@\d+", start=OBJECT,
+    Place("an inherited field", "(($b) Stage.at($n)).f", r"A$n\.f@\d+", start=OBJECT,
           beside="abstract class A$n { protected $type f; } class $b extends A$n { int g; }"),
+    Place("a field that another one hides", "((A$n) Stage.at($n)).f", r"A$n\.f@\d+", start=OBJECT,
+          beside="class A$n { $type f; } class $b extends A$n { $type f; }"),
     Place("an array of an interface", "$b.A[1]", r"(java\.lang\.)?$type\[\]@\d+\[1\]", beside="interface $b { $type[] A = new $type[3]; }", needs="-of-arrays"),
     Place("an element", "(($type[]) Stage.at($n))[$index]", r"(java\.lang\.)?$type\[\]@\d+\[$i\]", "plain element", start="Stage.put($n, new $type[3]);",
           needs="-of-arrays"),
-    Place("an AtomicInteger", "((AtomicInteger) Stage.at($n))", r"AtomicInteger@\d+.*", "atomic-number", start="Stage.put($n, new AtomicInteger());"),
-    Place("an AtomicLong", "((AtomicLong) Stage.at($n))", r"AtomicLong@\d+.*", "atomic-number", start="Stage.put($n, new AtomicLong());"),
-    Place("an AtomicReference", "((AtomicReference<Object>) Stage.at($n))", r"AtomicReference@\d+.*", "atomic-reference",
-          start="Stage.put($n, new AtomicReference<Object>());"),
-    Place("an AtomicBoolean", "((AtomicBoolean) Stage.at($n))", r"AtomicBoolean@\d+.*", "atomic-boolean", start="Stage.put($n, new AtomicBoolean());"),
-    Place("an AtomicIntegerArray", "((AtomicIntegerArray) Stage.at($n))", r"AtomicIntegerArray@\d+\[2\]", "atomic-array",
-          start="Stage.put($n, new AtomicIntegerArray(4));"),
-    Place("a field with an updater", "(($b) Stage.at($n))", FIELD, "updater", beside=UPDATER, start=OBJECT + " Stage.use($b.V);"),
-    Place("a field with a VarHandle", "(($b) Stage.at($n))", FIELD, "handle of-int", beside=HANDLE, start=OBJECT + " Stage.use($b.V);"),
+    Place("an element of an element", "(($type[][]) Stage.at($n))[1][$index]", r"(java\.lang\.)?$type\[\]@\d+\[$i\]", start="Stage.put($n, new $type[2][3]);",
+          needs="-of-arrays"),
+    Place("a static field of a class of another loader", "((Stage.Cell) Stage.at($n))", r"Twin\.s(@\d+)?", "cell",
+          start='Stage.put($n, Stage.made(Stage.loaded("Twin", $n)));'),
+    Place("a field of a class of another loader", "((Stage.Cell) Stage.at($n))", r"Twin\.f@\d+", "cell own",
+          start='Stage.put($n, Stage.made(Stage.loaded("Twin", $n)));'),
+    Place("the state of a synchronizer", "(($b) Stage.at($n))", r"$b@\d+", "state", beside=SYNCHRONIZER, start=OBJECT),
+    atomic("AtomicInteger", "atomic-number"), atomic("AtomicLong", "atomic-number"), atomic("AtomicReference", "atomic-reference"),
+    atomic("AtomicBoolean", "atomic-boolean"),
+    atomic("AtomicIntegerArray", "atomic-array", "4", r"@\d+\[2\]"), atomic("AtomicLongArray", "atomic-array", "4", r"@\d+\[2\]"),
+    atomic("AtomicReferenceArray", "atomic-references", "4", r"@\d+\[2\]"),
+    atomic("AtomicStampedReference", "atomic-stamped", '"a", 0'), atomic("AtomicMarkableReference", "atomic-marked", '"a", false'),
+    Place("a field with an updater", "(($b) Stage.at($n))", FIELD, "updater", beside=updater("Integer", "<$b>", "int"), start=OBJECT + " Stage.use($b.V);"),
+    Place("a field with an updater of longs", "(($b) Stage.at($n))", FIELD, "updater", beside=updater("Long", "<$b>", "long"), start=OBJECT
+          + " Stage.use($b.V);"),
+    Place("a field with an updater of references", "(($b) Stage.at($n))", FIELD, "reference-updater", beside=REFERENCE_UPDATER, start=OBJECT
+          + " Stage.use($b.V);"),
+] + [
+    Place("a field with a VarHandle" + how, "(($b) Stage.at($n))", FIELD, "handle of-int", beside=handled("int f;", found), start=OBJECT + " Stage.use($b.V);")
+    for how, found in FOUND] + [
+    Place("a static field with a VarHandle", "", r"$b\.s", "static-handle",
+          beside=handled("static int s;", 'MethodHandles.lookup().findStaticVarHandle($b.class, "s", int.class)'),
+          start="Stage.put($n, $b.class); Stage.use($b.V);"),
     Place("an element with a VarHandle", "((long[]) Stage.at($n)), 1", r"long\[\]@\d+\[1\]", "handle of-long",
           beside="class $b { static final VarHandle V = MethodHandles.arrayElementVarHandle(long[].class); }",
           start="Stage.put($n, new long[3]); Stage.use($b.V);"),
+    Place("bytes as a number", "((byte[]) Stage.at($n)), 4", r"byte\[\]@\d+\[4\]", "view",
+          beside="class $b { static final VarHandle V = MethodHandles.byteArrayViewVarHandle(int[].class, ByteOrder.nativeOrder()); }",
+          start="Stage.put($n, new byte[9]); Stage.use($b.V);"),
+    Place("a field with Unsafe", "(($b) Stage.at($n)), $b.F", FIELD, "unsafe", beside=UNSAFE, start=OBJECT + " Stage.use($b.V);"),
+    Place("an element with Unsafe", "((int[]) Stage.at($n)), sun.misc.Unsafe.ARRAY_INT_BASE_OFFSET + 4L", r"int\[\]@\d+\[1\]", "unsafe",
+          beside=UNSAFE, start="Stage.put($n, new int[3]); Stage.use($b.V);"),
 ]
 
 NUMBER_CALLS = ["set(3)", "lazySet(4)", "getAndSet(5)", "incrementAndGet()", "getAndAdd(2)", "updateAndGet(q -> q + 1)",
@@ -67,6 +115,20 @@ WRITES = forms([
     ("lazySet of an updater", "$b.V.lazySet($x, 3);", "updater"), ("getAndUpdate of an updater", "$b.V.getAndUpdate($x, q -> q + 1);", "updater"),
     ("compareAndSet of an updater", "if (!$b.V.compareAndSet($x, $old, 5)) throw new Error();", "updater"),
     ("= beside an updater", "$x.f = 4;", "updater"),
+    ("set of an updater of references", "$b.V.set($x, Stage.text());", "reference-updater"), ("= beside an updater of references", "$x.f = Stage.text();",
+        "reference-updater"),
+    ("getAndSet of an updater of references", "$b.V.getAndSet($x, Stage.text());", "reference-updater"),
+    ("compareAndSet of an updater of references", "if (!$b.V.compareAndSet($x, Stage.peekField($n), Stage.text())) throw new Error();", "reference-updater"),
+    ("a method of a class of another loader", "$x.store(3);", "cell -own"), ("a method for its own field", "$x.storeOwn(3);", "cell own"),
+    ("setState", "$x.state(3);", "state"), ("compareAndSetState", "if (!$x.swap(Stage.state($n), 4)) throw new Error();", "state"),
+    ("set of a static handle", "$b.V.set(3);", "static-handle"), ("getAndAdd of a static handle", "Stage.use((int) $b.V.getAndAdd(1));", "static-handle"),
+    ("compareAndSet of a static handle", 'if (!$b.V.compareAndSet(Stage.peek($n, "s"), 6)) throw new Error();', "static-handle"),
+    ("= beside a static handle", "$b.s = 3;", "static-handle"),
+    ("set of a view", "$b.V.set($x, 3);", "view"), ("setVolatile of a view", "$b.V.setVolatile($x, 3);", "view"),
+    ("putInt", "$b.V.putInt($x, 3);", "unsafe"), ("putIntVolatile", "$b.V.putIntVolatile($x, 3);", "unsafe"), ("putOrderedInt",
+        "$b.V.putOrderedInt($x, 3);", "unsafe"),
+    ("getAndAddInt", "$b.V.getAndAddInt($x, 3);", "unsafe"), ("getAndSetInt", "$b.V.getAndSetInt($x, 3);", "unsafe"),
+    ("compareAndSwapInt", "if (!$b.V.compareAndSwapInt($x, Stage.peekUnsafe($n), 5)) throw new Error();", "unsafe"),
     ("set of a handle", "$b.V.set($x, ($type) 3);", "handle"), ("setVolatile of a handle", "$b.V.setVolatile($x, ($type) 3);", "handle"),
     ("setRelease of a handle", "$b.V.setRelease($x, ($type) 3);", "handle"),
     ("getAndAdd of a handle", "Stage.use(($type) $b.V.getAndAdd($x, ($type) 1));", "handle"),
@@ -78,17 +140,35 @@ WRITES = forms([
     ("compareAndExchange", "$x.compareAndExchange($old, 5);", "atomic-number"),
     ("compareAndSet of a reference", "if (!$x.compareAndSet(Stage.peekReference($n), Stage.text())) throw new Error();", "atomic-reference"),
     ("compareAndSet of a boolean", "{ boolean o = Stage.peekAtomic($n) != 0; if (!$x.compareAndSet(o, !o)) throw new Error(); }", "atomic-boolean"),
+    ("compareAndExchange of a handle without its result", "$b.V.compareAndExchange($x, $old, ($type) 7);", "handle"),
+    ("weakCompareAndSetPlain, until it is made", "while (!$x.weakCompareAndSetPlain($old, 5));", "atomic-number"),
     ("compareAndSet of an array", "if (!$x.compareAndSet(2, (int) Stage.peekAtomic($n), 5)) throw new Error();", "atomic-array"),
+    ("compareAndSet of references", "if (!$x.compareAndSet(2, Stage.peekReference($n), Stage.text())) throw new Error();", "atomic-references"),
+    ("compareAndSet with a stamp", "if (!$x.compareAndSet(Stage.peekReference($n), Stage.text(), Stage.peekStamp($n), 2)) throw new Error();", "atomic-stamped"),
+    ("attemptStamp", "if (!$x.attemptStamp(Stage.peekReference($n), 5)) throw new Error();", "atomic-stamped"),
+    ("compareAndSet with a mark", "if (!$x.compareAndSet(Stage.peekReference($n), Stage.text(), Stage.peekMark($n), true)) throw new Error();", "atomic-marked"),
+    ("attemptMark", "if (!$x.attemptMark(Stage.peekReference($n), true)) throw new Error();", "atomic-marked"),
     ] + calls("atomic-number", NUMBER_CALLS) + calls("atomic-boolean", ["set(true)", "lazySet(false)", "getAndSet(true)"])
     + calls("atomic-reference", ["set(Stage.text())", "lazySet(Stage.text())", "getAndSet(Stage.text())", "updateAndGet(q -> Stage.text())"])
-    + calls("atomic-array", ["set(2, 4)", "getAndIncrement(2)", "lazySet(2, 1)", "accumulateAndGet(2, 3, Integer::sum)"]))
+    + calls("atomic-array", ["set(2, 4)", "getAndIncrement(2)", "lazySet(2, 1)", "accumulateAndGet(2, 3, (q, s) -> q + s)"])
+    + calls("atomic-references", ["set(2, Stage.text())", "getAndSet(2, Stage.text())", "updateAndGet(2, q -> Stage.text())"])
+    + calls("atomic-stamped", ["set(Stage.text(), 1)"]) + calls("atomic-marked", ["set(Stage.text(), true)"]))
 
 READS = forms([
     ("x", "Stage.use($x);", "plain", 3), ("a local", "{ $type l = $x; Stage.use(l); }", "plain"),
     ("x in a conditional", "Stage.use(Stage.any() >= 0 ? $x : $value);", "plain -boxed"), ("if (x)", "if ($x == 77) Stage.use(1);", "plain number"),
     ("switch (x)", "switch ((int) $x) { case 1: Stage.use(1); break; default: Stage.use(2); }", "plain number"),
     ("System.arraycopy out", "System.arraycopy(Stage.at($n), $i, new $type[1], 0, 1);", "element", 2),
-    ("get of an updater", "Stage.use($b.V.get($x));", "updater"), ("x beside an updater", "Stage.use($x.f);", "updater"),
+    ("get of an updater", "Stage.use($b.V.get($x));", "updater"), ("x beside an updater", "Stage.use($x.f);", "updater|reference-updater"),
+    ("get of an updater of references", "Stage.use($b.V.get($x));", "reference-updater"),
+    ("compareAndSet of an updater of references, failed", "if ($b.V.compareAndSet($x, new Object(), 5)) throw new Error();", "reference-updater"),
+    ("a method of a class of another loader", "Stage.use($x.load());", "cell -own"), ("a method for its own field", "Stage.use($x.loadOwn());", "cell own"),
+    ("getState", "Stage.use($x.state());", "state"), ("compareAndSetState, failed", "if ($x.swap(Stage.state($n) + 1, 4)) throw new Error();", "state"),
+    ("get of a static handle", "Stage.use((int) $b.V.get());", "static-handle"), ("x beside a static handle", "Stage.use($b.s);", "static-handle"),
+    ("compareAndSet of a static handle, failed", 'if ($b.V.compareAndSet(Stage.peek($n, "s") + 1, 6)) throw new Error();', "static-handle"),
+    ("get of a view", "Stage.use((int) $b.V.get($x));", "view"), ("getVolatile of a view", "Stage.use((int) $b.V.getVolatile($x));", "view"),
+    ("getInt", "Stage.use($b.V.getInt($x));", "unsafe"), ("getIntVolatile", "Stage.use($b.V.getIntVolatile($x));", "unsafe"),
+    ("compareAndSwapInt, failed", "if ($b.V.compareAndSwapInt($x, Stage.peekUnsafe($n) + 1, 5)) throw new Error();", "unsafe"),
     ("compareAndSet of an updater, failed", "if ($b.V.compareAndSet($x, $other, 5)) throw new Error();", "updater"),
     ("get of a handle", "Stage.use(($type) $b.V.get($x));", "handle"), ("getAcquire of a handle", "Stage.use(($type) $b.V.getAcquire($x));", "handle"),
     ("getVolatile of a handle", "Stage.use(($type) $b.V.getVolatile($x));", "handle"),
@@ -101,46 +181,61 @@ READS = forms([
     ("compareAndSet of a reference, failed", "if ($x.compareAndSet(new Object(), Stage.text())) throw new Error();", "atomic-reference"),
     ("compareAndSet of a boolean, failed", "{ boolean o = Stage.peekAtomic($n) != 0; if ($x.compareAndSet(!o, o)) throw new Error(); }", "atomic-boolean"),
     ("compareAndSet of an array, failed", "if ($x.compareAndSet(2, (int) Stage.peekAtomic($n) + 1, 5)) throw new Error();", "atomic-array"),
+    ("compareAndSet of references, failed", "if ($x.compareAndSet(2, new Object(), 5)) throw new Error();", "atomic-references"),
+    ("compareAndSet with a stamp, failed", "if ($x.compareAndSet(new Object(), 4, 5, 2)) throw new Error();", "atomic-stamped"),
+    ("compareAndSet with a mark, failed", "if ($x.compareAndSet(new Object(), 4, true, false)) throw new Error();", "atomic-marked"),
+    ("get with a stamp", "Stage.use($x.get(new int[1]));", "atomic-stamped"), ("get with a mark", "Stage.use($x.get(new boolean[1]));", "atomic-marked"),
     ] + calls("atomic-number", NUMBER_LOOKS, True) + calls("atomic-reference", ["get()", "getAcquire()", "getPlain()"], True)
-    + calls("atomic-boolean", ["get()", "getAcquire()"], True) + calls("atomic-array", ["get(2)", "getAcquire(2)"], True))
+    + calls("atomic-boolean", ["get()", "getAcquire()"], True) + calls("atomic-array|atomic-references", ["get(2)", "getAcquire(2)"], True)
+    + calls("atomic-stamped", ["getReference()", "getStamp()"], True) + calls("atomic-marked", ["getReference()", "isMarked()"], True))
 
 CHANGES = forms([("x++", "$x++;", "plain changed"), ("x += 3", "$x += 3;", "plain changed"), ("--x", "--$x;", "plain changed"),
-                 ("x = x + 1", "$x = ($type) ($x + 1);", "plain changed"), ("x += text", '$x += "a";', "plain text -element")])
+                 ("x = x + 1", "$x = ($type) ($x + 1);", "plain changed"), ("x += text", '$x += "a";', "plain text -element"),
+                 ("iterator and remove", "Stage.with($n, 3); { var i = $x.iterator(); i.next(); i.remove(); }", "iterated"),
+                 ("listIterator and set", "Stage.with($n, 3); { var i = $x.listIterator(); i.next(); i.set(4); }", "listed"),
+                 ("listIterator and add", "Stage.with($n, 3); { var i = $x.listIterator(); i.next(); i.add(5); }", "listed")])
 
 MAP_WRITES = ['put("a", 1)', 'remove("a")', "clear()", 'putAll(Map.of("c", 2))', 'putIfAbsent("a", 1)', 'merge("a", 1, Integer::sum)',
               'compute("a", (q, s) -> 3)', "replaceAll((q, s) -> 4)"]
 MAP_READS = ['get("a")', 'containsKey("b")', "size()", "isEmpty()", 'getOrDefault("a", 3)', "containsValue(4)", "keySet()", "entrySet()"]
 LIST_WRITES = ["add(1)", "set(0, 4)", "add(0, 3)"]
 LIST_READS = ["get(0)", "size()", "contains(3)"]
-#: Collections: the type, its elements at first, and the calls that write and that read it.
+KEY_WRITES = ['put("a", 1)', 'merge("a", 1, Integer::sum)', 'compute("a", (q, s) -> 3)', 'remove("a")', 'replace("a", 3)']
+KEY_READS = ['get("a")', 'containsKey("a")', 'getOrDefault("a", 2)']
+SET_WRITES, SET_READS = ["add(7)", "remove(8)", "clear()"], ["contains(3)", "size()", "isEmpty()"]
+#: Collections: the type, its elements at first or what makes it, the calls that write and that read it, and its traits.
 COLLECTIONS = [
-    ("HashMap<String, Integer>", "", MAP_WRITES, MAP_READS), ("TreeMap<String, Integer>", "", MAP_WRITES, MAP_READS),
-    ("LinkedHashMap<String, Integer>", "", MAP_WRITES, MAP_READS),
-    ("ConcurrentHashMap<String, Integer>", "", ['put("a", 1)', 'merge("a", 1, Integer::sum)', 'compute("a", (q, s) -> 3)'],
-     ['get("a")', 'containsKey("a")', 'getOrDefault("a", 2)']),
-    ("ConcurrentSkipListMap<String, Integer>", "", ['put("a", 1)'], ['get("a")', 'containsKey("a")']),
+    ("HashMap<String, Integer>", "", MAP_WRITES, MAP_READS, ""), ("TreeMap<String, Integer>", "", MAP_WRITES, MAP_READS, ""),
+    ("LinkedHashMap<String, Integer>", "", MAP_WRITES, MAP_READS, ""), ("Hashtable<String, Integer>", "", MAP_WRITES, MAP_READS + ["keys()", "elements()"], ""),
+    ("WeakHashMap<String, Integer>", "", MAP_WRITES, MAP_READS, ""), ("IdentityHashMap<String, Integer>", "", MAP_WRITES, MAP_READS, ""),
+    ("Properties", "", ['setProperty("a", "b")', 'put("a", "c")', "clear()"], ['getProperty("a")', "size()", 'get("a")'], ""),
+    ("ConcurrentHashMap<String, Integer>", "", KEY_WRITES, KEY_READS, "keys"), ("ConcurrentSkipListMap<String, Integer>", "", KEY_WRITES, KEY_READS, "keys"),
+    ("ConcurrentSkipListSet<Object>", "", ['remove("a")'], ['contains("a")'], "keys"),
     ("ArrayList<Object>", "List.of(1, 2)", LIST_WRITES + ["addAll(List.of(1, 2))", "removeIf(q -> false)"],
-     LIST_READS + ["indexOf(4)", "isEmpty()", "iterator()", "toArray()"]),
-    ("LinkedList<Object>", "List.of(1, 2)", LIST_WRITES + ["addFirst(4)", "removeLast()", "add(5)"], LIST_READS + ["getFirst()", "isEmpty()"]),
+     LIST_READS + ["indexOf(4)", "isEmpty()", "iterator()", "toArray()"], "iterated listed"),
+    ("LinkedList<Object>", "List.of(1, 2)", LIST_WRITES + ["addFirst(4)", "add(5)", "push(6)"], LIST_READS + ["getFirst()", "isEmpty()"], "iterated listed"),
     ("ArrayDeque<Object>", "List.of(1, 2)", ["add(1)", "push(2)", "addFirst(2)", "addLast(3)", "offer(4)"],
-     ["peek()", "peekFirst()", "size()", "contains(3)", "isEmpty()"]),
-    ("PriorityQueue<Integer>", "List.of(1, 2)", ["add(1)", "offer(3)"], ["peek()", "size()", "isEmpty()"]),
-    ("HashSet<Integer>", "List.of(1, 2)", ["add(7)", "remove(8)", "clear()"], ["contains(3)", "size()", "isEmpty()"]),
-    ("CopyOnWriteArrayList<Object>", "List.of(1, 2)", LIST_WRITES + ["addIfAbsent(77)"], LIST_READS),
-    ("Vector<Object>", "List.of(1, 2)", LIST_WRITES + ["addElement(3)", "insertElementAt(3, 0)"], LIST_READS + ["elementAt(0)", "isEmpty()"]),
-    ("BitSet", "", ["set(3)", "flip(4)", "clear()"], ["get(3)", "cardinality()", "isEmpty()"]),
-    ("List<Object>", "Collections.synchronizedList(new ArrayList<Object>(List.of(1, 2)))", LIST_WRITES, LIST_READS),
+     ["peek()", "peekFirst()", "size()", "contains(3)", "isEmpty()"], "iterated"),
+    ("PriorityQueue<Object>", "List.of(1, 2)", ["add(1)", "offer(3)"], ["peek()", "size()", "isEmpty()"], "iterated"),
+    ("HashSet<Object>", "List.of(1, 2)", SET_WRITES, SET_READS, "iterated"), ("TreeSet<Object>", "List.of(1, 2)", SET_WRITES, SET_READS + ["floor(3)"],
+        "iterated"),
+    ("LinkedHashSet<Object>", "List.of(1, 2)", SET_WRITES, SET_READS, "iterated"), ("CopyOnWriteArraySet<Object>", "List.of(1, 2)", SET_WRITES, SET_READS, ""),
+    ("CopyOnWriteArrayList<Object>", "List.of(1, 2)", LIST_WRITES + ["addIfAbsent(77)"], LIST_READS, ""),
+    ("Vector<Object>", "List.of(1, 2)", LIST_WRITES + ["addElement(3)", "insertElementAt(3, 0)"], LIST_READS + ["elementAt(0)", "isEmpty()"], "iterated listed"),
+    ("BitSet", "", ["set(3)", "flip(4)", "clear()"], ["get(3)", "cardinality()", "isEmpty()"], ""),
+    ("List<Object>", "Collections.synchronizedList(new ArrayList<Object>(List.of(1, 2)))", LIST_WRITES, LIST_READS, ""),
+    ("Map<String, Integer>", "Collections.synchronizedMap(new HashMap<String, Integer>())", MAP_WRITES, MAP_READS, ""),
+    ("Set<Object>", "Collections.synchronizedSet(new HashSet<Object>())", ["add(7)", "remove(8)"], ["contains(3)", "size()"], ""),
 ]
 
 
 def collection(program, it):
     """Makes the variable a collection."""
-    kind, first, writes, reads = program.random.choice(COLLECTIONS)
+    kind, first, writes, reads, traits = program.random.choice(COLLECTIONS)
     name = kind.partition("<")[0]
-    new = first if name == "List" else "new %s(%s)" % (kind, first)
-    pattern = {"ConcurrentHashMap": r"ConcurrentHashMap@\d+\.key.*", "ConcurrentSkipListMap": r"ConcurrentSkipListMap@\d+\.key.*",
-               "List": r".*List@\d+"}.get(name, name + r"@\d+")
-    it.place = Place("a " + name, "((%s) Stage.at($n))" % kind, pattern, "collection", start="Stage.put($n, %s);" % new)
+    new = first if first.startswith("Collections.") else "new %s(%s)" % (kind, first)
+    pattern = name + r"@\d+\.key.*" if "keys" in traits else r".*%s@\d+" % name
+    it.place = Place("a " + name, "((%s) Stage.at($n))" % kind, pattern, "collection " + traits, start="Stage.put($n, %s);" % new)
     it.writes, it.reads = forms(calls("collection", writes)), forms(calls("collection", reads, True))
 
 
@@ -157,8 +252,8 @@ def make_variable(program, number, name):
     at = random.randrange(3)
     if "handle" in it.traits:
         it.type = "long" if "of-long" in it.traits else "int"
-    of = "\"1\"" if "of-long" in it.traits else "\"f\""
-    typed = "int" if "Integer" in it.place.name else "long"
+    of = '"1"' if "of-long" in it.traits else '"f"'
+    typed = "long" if "AtomicLong" in it.place.name else "int"
     old = "(%s) Stage.peekAtomic(%d)" % (typed, number) if "atomic-number" in it.traits else "Stage.peek(%d, %s)" % (number, of)
     it.words = {"n": number, "p": program.name, "b": "B%d" % number, "type": it.type, "value": it.value, "i": at, "old": old, "other": old + " + 1",
                 "index": random.choice([str(at), "(int) Stage.same(%d)" % at])}

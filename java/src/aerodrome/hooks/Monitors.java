@@ -41,6 +41,9 @@ public final class Monitors {
         }
     };
 
+    /** Whether calls of the collection take a monitor. */
+    static boolean has(Object collection) { return WAYS.get(collection.getClass()) != Way.NONE; }
+
     static Object of(Object receiver, int code) {
         switch (WAYS.get(receiver.getClass())) {
             // Its addAll asks the other collection before it takes the monitor.

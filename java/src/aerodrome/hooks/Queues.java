@@ -6,8 +6,8 @@ import aerodrome.log.LoggedThread;
 import aerodrome.names.Numbers;
 import aerodrome.names.Text;
 import java.util.ArrayDeque;
-import java.util.ArrayList;
 import java.util.Collection;
+import java.util.Deque;
 import java.util.HashMap;
 import java.util.Iterator;
 import java.util.List;
@@ -81,8 +81,8 @@ final class Queues {
         private long puts, takes;
         /** Whether nobody was putting, or taking. */
         private boolean isUnput, isUntaken;
-        /** Where what is drained goes, and how much is there already. */
-        private List<?> to;
+        /** Where what is drained goes, and how much is there already; null where nobody can say what came there. */
+        private Collection<?> to;
         private int size;
     }
 
@@ -128,11 +128,16 @@ final class Queues {
     }
     Before drain(Object to) {
         Before before = take();
-        if (to instanceof ArrayList && to.getClass().getClassLoader() == null) {
-            before.to = (List<?>) to;
-            before.size = before.to.size();
-        }
+        if (!isPlain(to)) return before;
+        before.size = ((Collection<?>) to).size();
+        // What comes to a list stands behind what was there.
+        if (before.size == 0 || to instanceof List || to instanceof Deque) before.to = (Collection<?>) to;
         return before;
+    }
+    /** Whether it is a collection of the JDK whose methods call none of the program, and take no monitor. */
+    private static boolean isPlain(Object to) {
+        if (!(to instanceof Collection) || to.getClass().getClassLoader() != null) return false;
+        return to.getClass().getName().indexOf('$') < 0 && !Monitors.has(to);
     }
 
     synchronized Before look() {
@@ -179,8 +184,10 @@ final class Queues {
             sawNone(me, queue, before, site);
             return;
         }
-        for (int one = 0; before.to != null && one < count; one++)
-            received(me, queue, before.to.get(before.size + one), false, true, site);
+        if (before.to != null) {
+            Object[] all = before.to.toArray();
+            for (int one = before.size; one < all.length; one++) received(me, queue, all[one], false, true, site);
+        }
         wasTaken(me, queue, before, site);
     }
     synchronized void ended() { taking--; }

@@ -6,8 +6,8 @@ import aerodrome.Options;
 import aerodrome.names.Fields;
 import aerodrome.names.Site;
 import java.util.Arrays;
-import java.util.HashSet;
-import java.util.Set;
+import java.util.HashMap;
+import java.util.Map;
 import org.objectweb.asm.Handle;
 import org.objectweb.asm.Label;
 import org.objectweb.asm.MethodVisitor;
@@ -25,9 +25,9 @@ final class WovenMethod extends AdviceAdapter {
     private final Label start = new Label();
     private final Coverage coverage = new Coverage();
     private final boolean isCatching;
-    /** The handlers of errors, and whether one has begun whose first instruction hasn't come. */
-    private final Set<Label> handlers = new HashSet<>();
-    private boolean isCaught;
+    /** The handlers of errors, with what stands behind their hooks, and one that has begun whose first instruction hasn't come. */
+    private final Map<Label, Label> handlers = new HashMap<>();
+    private Label caught;
     /** The variable that has how much was open when the method began; below 0 where there is none. */
     private int depth = -1;
     private boolean entered;
@@ -130,24 +130,40 @@ final class WovenMethod extends AdviceAdapter {
         return type == null || type.matches("java/lang/(Throwable|Error|VirtualMachineError|StackOverflowError)");
     }
 
+    /**
+     * A handler may be within what it handles, as javac has it for `finally`. Its hook is not: for a stack that is too full for the
+     * hook, it would begin again and again.
+     */
     @Override
     public void visitTryCatchBlock(Label start, Label end, Label handler, String type) {
-        if (isCatching && isOfErrors(type)) handlers.add(handler);
-        super.visitTryCatchBlock(start, end, handler, type);
+        boolean isHooked = isCatching && isOfErrors(type);
+        Label behind = isHooked ? handlers.computeIfAbsent(handler, one -> new Label()) : null;
+        super.visitTryCatchBlock(isHooked && start == handler ? behind : start, end, handler, type);
     }
     @Override
     public void visitLabel(Label label) {
-        isCaught |= handlers.contains(label);
+        if (handlers.containsKey(label)) caught = label;
         super.visitLabel(label);
     }
     /** Before the first instruction of a handler. */
     private void caught() {
-        if (!isCaught) return;
-        isCaught = false;
+        if (caught == null) return;
         mv.visitVarInsn(ILOAD, depth);
         mv.visitLdcInsn(opened());
         pushSite();
         call(BLOCKS, "caught", "(III)V");
+        mv.visitLabel(handlers.get(caught));
+        caught = null;
+    }
+    @Override
+    public void visitIntInsn(int opcode, int operand) {
+        caught();
+        super.visitIntInsn(opcode, operand);
+    }
+    @Override
+    public void visitJumpInsn(int opcode, Label to) {
+        caught();
+        super.visitJumpInsn(opcode, to);
     }
     @Override
     public void visitVarInsn(int opcode, int variable) {
@@ -166,6 +182,7 @@ final class WovenMethod extends AdviceAdapter {
 
     @Override
     public void visitFieldInsn(int opcode, String owner, String name, String descriptor) {
+        caught();
         boolean isOwn = owner.equals(of.name);
         boolean isUnborn = opcode == PUTFIELD && isConstructor && !entered && isOwn;
         if (isLight || isUnborn || !Options.covers(owner) || isOwn && isSkipped(name)) {
@@ -252,6 +269,7 @@ final class WovenMethod extends AdviceAdapter {
 
     @Override
     public void visitLdcInsn(Object value) {
+        caught();
         coverage.constant(value);
         super.visitLdcInsn(value);
     }
@@ -293,6 +311,7 @@ final class WovenMethod extends AdviceAdapter {
     /** A reference to a method whose calls are replaced is one to what these are replaced by. */
     @Override
     public void visitInvokeDynamicInsn(String name, String descriptor, Handle maker, Object... arguments) {
+        caught();
         Object[] led = arguments;
         if (isPlain(maker) && of.takesStubs()) {
             Handle to = (Handle) arguments[1];
