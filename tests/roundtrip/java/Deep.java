@@ -26,6 +26,12 @@ public class Deep {
             return entering(a + 1) + 1;
         }
     }
+    /** No block, so that the hook that needs the most room is that of the monitor. */
+    static long holding(long a) {
+        synchronized (Deep.class) {
+            return holding(a + 1) + 1;
+        }
+    }
     static long writing(long a) {
         levels[1] = level;
         level = levels[1] + 1;

@@ -15,7 +15,7 @@ FEATURES = ("twice", "semaphore", "latch", "queue", "barrier", "message", "condi
             "again", "permits", "looks", "scopes")
 QUICK = ["-XX:+UseSerialGC", "-XX:TieredStopAtLevel=1"]
 FILES = ("Stage", "Mark", "Twin", "Deep")
-NO_BLOCKS = "main,run,call,<init>,<clinit>,lower,lock,unlock,tryLock,lockInterruptibly,newCondition,Mark.step,$p.thread*,$p.body*,$p.lambda$*,B*,Twin.*"
+NO_BLOCKS = "main,run,call,<init>,<clinit>,lower,holding,lock,unlock,tryLock,lockInterruptibly,newCondition,Mark.step,$p.thread*,$p.body*,$p.lambda$*,B*,Twin.*"
 
 
 def compiled(program, folder):

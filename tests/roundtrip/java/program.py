@@ -10,8 +10,8 @@ IMPORTS = ["java.lang.invoke.*", "java.nio.*", "java.util.*", "java.util.concurr
 ENDS = [("return", 4), ("throw", 2), ("tail", 2), ("overflow", 1)]
 #: What catches a StackOverflowError, and the methods of Deep.java that call themselves until it comes.
 CAUGHT = ["StackOverflowError", "VirtualMachineError", "Error", "Throwable"]
-OVERFLOWS = ["Deep.plain(1)", "Deep.wide(1, 2, 3, 4)", "Deep.catching(1)", "Deep.finishing(1)", "Deep.locked(1)", "Deep.entering(1)", "Deep.writing(1)",
-             "new Deep().turned(1)"]
+OVERFLOWS = ["Deep.plain(1)", "Deep.wide(1, 2, 3, 4)", "Deep.catching(1)", "Deep.finishing(1)", "Deep.locked(1)", "Deep.entering(1)", "Deep.holding(1)",
+             "Deep.writing(1)", "new Deep().turned(1)"]
 
 
 class JavaProgram(Program):
