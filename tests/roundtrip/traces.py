@@ -53,6 +53,7 @@ class Trace:
         self.held = {one: [] for one in self.locks}      # the acquires that have no release yet
         self.things = {kind: [kind + str(one) for one in range(random.randint(1, 2))] for kind in MORE if kind in self.features}
         self.permits = {name: random.randint(0, 2 if "spare" in self.features else 1) for name in self.things.get("semaphore", ())}
+        self.has_roles = "spare" in self.features and random.random() < 0.5
         self.first_permits, self.at_first, self.filled = dict(self.permits), dict(self.permits), {}
         self.make()
 
@@ -212,11 +213,9 @@ class Trace:
             self.add(self.who(thread, name, "post"), "post", name)
 
     def who(self, thread, name, operation):
-        """Returns the thread that does an operation: with "spare", the first semaphore has one for each, as long as it is there."""
-        if "spare" not in self.features or not name.endswith("0"):
-            return thread
+        """Returns the thread that does an operation of a semaphore: if these have roles, the one that did it before."""
         known = self.filled.setdefault(name, {})
-        if known.get(operation) not in self.live:
+        if not self.has_roles or known.get(operation) not in self.live:
             known[operation] = thread
         return known[operation]
 
