@@ -60,6 +60,7 @@ class Trace:
         self.held = {one: [] for one in self.locks}      # the acquires that have no release yet
         self.things = {kind: [kind + str(one) for one in range(random.randint(1, 2))] for kind in self.some_kinds()}
         self.permits = {name: random.randint(0, 2 if "spare" in self.features else 1) for name in self.things.get("semaphore", ())}
+        self.has_roles = "spare" in self.features and random.random() < 0.5
         self.slots = {name: random.choice((0, 1, 2, 3, 3)) for name in self.things.get("channel", ())}
         self.first_permits, self.at_first = dict(self.permits), dict(self.permits)
         self.filled, self.closed, self.locked_by = {}, set(), {}
@@ -270,11 +271,9 @@ class Trace:
             self.permits[name] += step.count
 
     def who(self, thread, name, operation):
-        """Returns the thread that does an operation: with "spare", the first semaphore has one for each, as long as it is there."""
-        if "spare" not in self.features or not name.endswith("0"):
-            return thread
+        """Returns the thread that does an operation of a semaphore: if these have roles, the one that did it before."""
         known = self.filled.setdefault(name, {})
-        if known.get(operation) not in self.live:
+        if not self.has_roles or known.get(operation) not in self.live:
             known[operation] = thread
         return known[operation]
 

@@ -83,6 +83,9 @@ NEW = forms([
      "stage_bytes($i, $whole);", "mapped", 2),
     ("mremap", "{ void *p = mmap(0, 4096, PROT_NONE, MAP_PRIVATE | MAP_ANONYMOUS, -1, 0); "
      "if (mremap($whole, 4096, 4096, MREMAP_MAYMOVE | MREMAP_FIXED, p) != p) abort(); stage_bytes($i, p); }", "mapped", 2),
+    ("mremap to and fro", "{ void *p = mmap(0, 4096, PROT_NONE, MAP_PRIVATE | MAP_ANONYMOUS, -1, 0), *q = $whole; "
+     "if (mremap(q, 4096, 4096, MREMAP_MAYMOVE | MREMAP_FIXED, p) != p || mremap(p, 4096, 4096, MREMAP_MAYMOVE | MREMAP_FIXED, q) != q) abort(); "
+     "stage_bytes($i, q); }", "mapped", 2),
 ])
 SAME = forms([("realloc in place", "if (realloc($whole, 24) != $whole) abort();"), ("realloc that shrinks", "if (realloc($whole, 20) != $whole) abort();")])
 #: A realloc that moves them, as so many bytes are nowhere behind them: $room grows by the time.
