@@ -92,6 +92,6 @@ pub check_apart : (terms : Terms) (i : Inquired) (place : ℕ) (o : Option (List
 check_apart terms i place None apart = apart
 check_apart terms i place (Some rs) apart = record {
   no_checks = apart.no_checks;
-  no_chunks = λ s. chunks_asked-more s i.verdicts (Check place rs terms.rules.limits terms.rules.labels terms.order terms.explain)
+  no_chunks = λ s. chunks_asked-more s i.verdicts (Check place rs terms.rules.limits terms.rules.labels terms.rules.end terms.order terms.explain)
       ∙ (append-nil (chunks_asked s i.verdicts) ∙ apart.no_chunks s);
 }

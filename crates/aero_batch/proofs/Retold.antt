@@ -139,7 +139,7 @@ known_after terms qs more tale tracks place before after was there elsewhere tra
 -- the open questions with one more for a verdict, if it is asked for, behind all
 abbrev checked_on : Terms → Inquired → ℕ → Option (List Reading) → List Question
 checked_on terms i place None = all_open i
-checked_on terms i place (Some rs) = all_open i ++ Check place rs terms.rules.limits terms.rules.labels terms.order terms.explain ∷ []
+checked_on terms i place (Some rs) = all_open i ++ Check place rs terms.rules.limits terms.rules.labels terms.rules.end terms.order terms.explain ∷ []
 
 check_asked : (terms : Terms) (i : Inquired) (tale : ℕ → Story) (tracks : List Track) (place : ℕ) (before after : Track) (parts : Option (List Reading)) →
     slice_get tracks place ≡ Some before → IsReady before → GivesParts before after parts → AreTracked terms (all_open i) tale tracks →
@@ -147,7 +147,7 @@ check_asked : (terms : Terms) (i : Inquired) (tale : ℕ → Story) (tracks : Li
 check_asked terms i tale tracks place (Arriving known) after parts was ready gives tracked = absurd ready
 check_asked terms i tale tracks place (Checking bytes ending) after parts was ready gives tracked = absurd ready
 check_asked terms i tale tracks place (Arrived bytes ending chunks known) after parts was ready (inl gives) tracked =
-    let question = Check place known.parts terms.rules.limits terms.rules.labels terms.order terms.explain in
+    let question = Check place known.parts terms.rules.limits terms.rules.labels terms.rules.end terms.order terms.explain in
     subst (λ o. AreTracked terms (checked_on terms i place o) tale (changed place (λ t. after) tracks)) (sym gives.0)
     (known_after terms (all_open i) (all_open i ++ question ∷ []) tale tracks place (Arrived bytes ending chunks known) after was
     (subst (λ x. IsTracked terms (all_open i ++ question ∷ []) place (tale place) x) (sym gives.1)
@@ -170,7 +170,7 @@ check_tracked : (terms : Terms) (i : Inquired) (tale : ℕ → Story) (tracks : 
     AreTracked terms (checked_on terms i place parts) tale tracks → AreTracked terms (all_open (with_check terms i place parts)) tale tracks
 check_tracked terms i tale tracks place None apart tracked = tracked
 check_tracked terms i tale tracks place (Some rs) apart tracked =
-    check_before_chunks terms i.verdicts i.chunks (Check place rs terms.rules.limits terms.rules.labels terms.order terms.explain) tale tracks apart.no_checks
+    check_before_chunks terms i.verdicts i.chunks (Check place rs terms.rules.limits terms.rules.labels terms.rules.end terms.order terms.explain) tale tracks apart.no_checks
     (λ s. refl) tracked
 
 pub checking_holds : (terms : Terms) (old now : List Sighted) (p q : Underway) (tale : ℕ → Story) → ChecksNext terms p q → Holds terms old now p tale →

@@ -76,7 +76,7 @@ check_more terms i place (Some rs) = (
   1,
   record {
     one = omega arith;
-    questions = omega (arith, length_push i.verdicts (Check place rs terms.rules.limits terms.rules.labels terms.order terms.explain));
+    questions = omega (arith, length_push i.verdicts (Check place rs terms.rules.limits terms.rules.labels terms.rules.end terms.order terms.explain));
     more_asked = refl;
   },
 )

@@ -76,7 +76,7 @@ pub record StaysOpen (old new : Gathered) : Type 0 where
 
 abbrev pub kind_of : Question → Kind
 kind_of (Parse trace number bytes) = kinds.Parse
-kind_of (Check trace parts limits labels order explain) = kinds.Check
+kind_of (Check trace parts limits labels end order explain) = kinds.Check
 
 -- The number of a job tells the kind of its question, and its ticket among those of its kind.
 abbrev pub job_number : Kind → ℕ → ℕ

@@ -166,7 +166,7 @@ ReadsOn terms before after old new =
 -- the verdict is asked for on what the chunks of a source say
 abbrev pub with_check : Terms → Inquired → ℕ → Option (List Reading) → Inquired
 with_check terms i trace None = i
-with_check terms i trace (Some parts) = with_question kinds.Check i (Check trace parts terms.rules.limits terms.rules.labels terms.order terms.explain)
+with_check terms i trace (Some parts) = with_question kinds.Check i (Check trace parts terms.rules.limits terms.rules.labels terms.rules.end terms.order terms.explain)
 
 -- The verdict on the next source is asked for, where it needs one.
 pub record ChecksNext (terms : Terms) (old new : Underway) : Type 0 where

@@ -64,13 +64,14 @@ fn check_question(
 ) -> Result<Arc<Question, Global>, AllocError>
     ensures { IfOk result (λ question. arc_value question ≡
         Question.Check trace parts plan.now.terms.rules.limits plan.now.terms.rules.labels
-        plan.now.terms.order plan.now.terms.explain) }
+        plan.now.terms.rules.end plan.now.terms.order plan.now.terms.explain) }
 {
     Question::Check {
         trace,
         parsed: parts,
         limits: *plan.terms.limits(),
         except: plan.terms.shared_except().share()?,
+        end: plan.terms.end(),
         order: plan.terms.order(),
         explain: plan.terms.explain(),
     }

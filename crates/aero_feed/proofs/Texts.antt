@@ -2,7 +2,7 @@
 use Rattle.std.proofs.Common.{◌≡◌, ℕ, suc, Bool, true, false, cond, List, [], ◌∷◌, ◌++◌, map, Option, Some, None, refl, sym, ◌∙◌, ap, subst, true≢false, ◌⊎◌, inl, inr, arith, append_assoc}
 use Rattle.std.proofs.lemmas.Bool.{cases_Bool, ltb-true}
 use Rattle.std.proofs.lemmas.List.{append-nil, map-append}
-use Rattle.std.specs.Prelude.{option_to_list, option_map, is_some, nat_lt, Result, Ok, Err, IfSome, OnOk}
+use Rattle.std.specs.Prelude.{option_to_list, option_map, slice_get, is_some, nat_lt, Result, Ok, Err, IfSome, OnOk}
 use Rattle.std.specs.Result.{is_err}
 use Rattle.std.specs.List.{concat}
 use Rattle.aero_model.specs.declared.verdict.Cycle.{Cycle}
@@ -10,6 +10,7 @@ use Rattle.aero_model.specs.declared.verdict.Verdict.{Verdict}
 use Rattle.aero_model.specs.declared.verdict.Verdict.TheVariants.{Serializable, Pending, Violation, Malformed, IllFormed}
 use Rattle.aero_model.specs.declared.verdict.LineFault.TheVariants.{TooManyLines}
 use Rattle.aero_model.specs.Lines.{EndsLine}
+use Rattle.aero_model.specs.Named.{Named}
 use Rattle.aero_grammar.specs.Reading.{Reading, reading_of, whole_reading}
 use Rattle.aero_lines.specs.Cutting.{Cutting, nothing_yet, unless_empty, fed, block_of, last_block, blocks_from}
 use Rattle.aero_lines.proofs.Steps.{last_block-shut, last_block-at}
@@ -19,6 +20,7 @@ use Rattle.aero_judge.specs.Judging.{Judging, nothing_judged}
 use Rattle.aero_verdict.specs.Ordered.{is_faultless}
 use Rattle.aero_verdict.specs.Verdict.{IsVerdict}
 use Rattle.aero_model.specs.Terms.{Rules, Terms}
+use Rattle.aero_verdict.proofs.Ending.{none_counted}
 use Rattle.aero_verdict.proofs.OneVerdict.{one_verdict}
 use Rattle.aero_feed.specs.Feeding.{IsTextVerdict, IsCertainOf, IsOpenText, ShowsText}
 use Rattle.aero_feed.specs.Reads.{HasRead, GoesOn, IsSure, StandsAt, IsJudgedOut}
@@ -94,7 +96,13 @@ sure_on text piece fed verdict is = record {
 
 -- where the text ends a line, and nothing is wrong with its parts, nothing is wrong with it
 pub open_text : (text : List ℕ) (c : Cutting) (parts : List Reading) (rules : Rules) → HasRead text c parts → IsOpen parts rules → EndsLine text → IsOpenText text rules
-open_text text c parts rules is right ends verdict so = right verdict (verdict_of_parts rules parts text verdict (all_read text c parts is ends) so)
+open_text text c parts rules is right ends verdict so =
+    let says = all_read text c parts is ends in
+    elim (right verdict (verdict_of_parts rules parts text verdict says so)) [
+      | inl faultless ↦ inl faultless
+      | inr (inl many) ↦ inr (inl many)
+      | inr (inr late) ↦ inr (inr (late.0, late.1 ∙ ap (λ (r : Reading). Some (suc r.lines)) says))
+    ]
 
 no_some : {A : Type 0} {x : A} → None ≡ Some x → ⊥
 no_some e = cc
@@ -110,10 +118,10 @@ none_too_many limit = go (cases_Bool (nat_lt limit 0))
 faultless_nothing : (rules : Rules) (verdict : Verdict) → IsVerdict [] rules verdict → is_faultless verdict ≡ true
 faultless_nothing rules (Serializable events blocks) is = refl
 faultless_nothing rules (Pending events blocks pending) is = refl
-faultless_nothing rules (Violation line thread begun) is = absurd (no_some is.line_of)
+faultless_nothing rules (Violation line thread begun) is = absurd (no_some (sym (ap (λ es. option_map (λ (e : ℕ × Named). e.0) (slice_get es is.place)) (none_counted rules)) ∙ is.line_of))
 faultless_nothing rules (Malformed line fault) is =
     absurd (no_some (sym (ap (λ b. cond b (Some (suc rules.limits.lines, TooManyLines)) None) (none_too_many rules.limits.lines)) ∙ is.cause))
-faultless_nothing rules (IllFormed line fault) is = absurd (no_some is.line_of)
+faultless_nothing rules (IllFormed line fault) is = absurd (no_some (sym (ap (λ es. option_map (λ (e : ℕ × Named). e.0) (slice_get es is.place)) (none_counted rules)) ∙ is.line_of))
 
 -- before the first piece
 pub stands_first : (terms : Terms) → StandsAt [] nothing_yet (nothing_judged terms) None

@@ -1,5 +1,5 @@
 -- What a caller sees of a text that is fed piece by piece.
-use Rattle.std.specs.Prelude.{◌≡◌, ◌⊎◌, ◌+◌, ℕ, Bool, true, false, List, [], ◌∷◌, ◌++◌, Option, None, Some, Result, IfSome, OnErr, OnOk}
+use Rattle.std.specs.Prelude.{◌≡◌, ◌⊎◌, ◌+◌, ℕ, suc, Bool, true, false, List, [], ◌∷◌, ◌++◌, Option, None, Some, Result, IfSome, OnErr, OnOk}
 use Rattle.aero_model.specs.declared.verdict.Cycle.{Cycle}
 use Rattle.aero_model.specs.declared.verdict.LineFault.TheVariants.{TooManyLines}
 use Rattle.aero_model.specs.declared.verdict.Verdict.{Verdict}
@@ -7,6 +7,7 @@ use Rattle.aero_model.specs.declared.verdict.Verdict.TheVariants.{Malformed}
 use Rattle.aero_model.specs.Verdicts.{HasOwnFault}
 use Rattle.aero_grammar.specs.Reading.{reading_of}
 use Rattle.aero_verdict.specs.Explained.{ShowsVerdict}
+use Rattle.aero_verdict.specs.Fed.{told_line}
 use Rattle.aero_verdict.specs.Ordered.{is_faultless}
 use Rattle.aero_verdict.specs.Verdict.{IsVerdict}
 use Rattle.aero_model.specs.Terms.{Rules}
@@ -44,9 +45,12 @@ pub record IsCertainOf (text : List ℕ) (rules : Rules) (verdict : Verdict) : T
   pub own_fault : HasOwnFault verdict
   pub wrong : is_faultless verdict ≡ false
 
--- nothing is wrong with this text, but maybe that there is one line too many
+-- Nothing is wrong with this text, but maybe that there is one line too many, or, if blocks end at the end, that something is wrong with the ends there,
+-- which stand on the line after the last.
 abbrev pub IsOpenText : List ℕ → Rules → Type 0
-IsOpenText text rules = (verdict : Verdict) → IsTextVerdict text rules verdict → (is_faultless verdict ≡ true) ⊎ (verdict ≡ Malformed (rules.limits.lines + 1) TooManyLines)
+IsOpenText text rules =
+    (verdict : Verdict) → IsTextVerdict text rules verdict →
+    (is_faultless verdict ≡ true) ⊎ ((verdict ≡ Malformed (rules.limits.lines + 1) TooManyLines) ⊎ ((rules.end ≡ true) × (told_line verdict ≡ Some (suc (reading_of text).lines))))
 
 -- what shows the verdict that is certain, where it is a violation and that is to be shown, and else nothing
 abbrev pub ShowsText : (explains : Bool) → Option Verdict → List ℕ → Rules → Option Cycle → Type 0

@@ -11,6 +11,7 @@ use Rattle.aero_model.specs.Named.{Named}
 use Rattle.aero_grammar.specs.Meaning.{Meaning, Blank, Means, Faulty, meaning}
 use Rattle.aero_grammar.specs.Reading.{Reading, after_lines, followed_by, whole_reading, line_reading, reading_of, events_within, fault_within, malformed_line}
 use Rattle.aero_grammar.proofs.Joined.{reading, whole_reading-append}
+use Rattle.aero_verdict.proofs.Ending.{counted_same_front}
 use Rattle.aero_verdict.proofs.Readings.{after_faulty, after_faultless}
 use Rattle.aero_model.specs.Terms.{Rules}
 use Rattle.aero_intake.specs.Laws.{AreJudgedAlike, FirstChunksDecide}
@@ -102,7 +103,7 @@ pub first_parts_decide : (rules : Rules) (parts : List Reading) (more : List (Li
     AreJudgedAlike parts (parts ++ map reading_of more) rules
 first_parts_decide rules parts more is =
     let alike = front_counts rules parts more is in
-    counted_alike rules parts (parts ++ map reading_of more) alike.events alike.fault
+    counted_alike rules parts (parts ++ map reading_of more) (counted_same_front rules parts (parts ++ map reading_of more) alike.events alike.fault is) alike.fault
 
 pub first_chunks_decide : FirstChunksDecide
 first_chunks_decide front more rules is =

@@ -4,13 +4,15 @@ use Rattle.std.specs.Prelude.{map}
 use Rattle.std.specs.List.{concat}
 use Rattle.aero_model.specs.declared.verdict.Finding.{Finding}
 use Rattle.aero_model.specs.declared.verdict.Finding.TheVariants.{Judged, Ordered, Explained, Opened, Broken, TooLarge}
-use Rattle.aero_grammar.specs.Reading.{Reading, reading_of, whole_reading, events_within, malformed_line}
+use Rattle.aero_grammar.specs.Reading.{Reading, reading_of, whole_reading, malformed_line}
 use Rattle.aero_grammar.proofs.Joined.{reading_of-cap, reading_of-concat}
 use Rattle.aero_lines.specs.Cutting.{nothing_yet, blocks_from}
 use Rattle.aero_lines.proofs.Runs.{blocks_are_the_text}
 use Rattle.aero_judge.specs.Finding.{IsTraceFinding}
 use Rattle.aero_model.specs.Terms.{Terms, Rules}
 use Rattle.aero_intake.specs.Laws.{AreJudgedAlike, ChunksJudgeAsTheText}
+use Rattle.aero_verdict.specs.Verdict.{counted_events, faulty_line}
+use Rattle.aero_verdict.proofs.Ending.{counted_same}
 use Rattle.aero_judge.proofs.SameVerdict.{one_read, same_verdict, same_order, same_cycle, same_blocks}
 
 -- what the chunks say, one after the other, is what the text says
@@ -20,8 +22,7 @@ chunks_read pieces =
     reading_of-concat (blocks_from nothing_yet pieces) law.1 ∙ (ap reading_of law.0 ∙ reading_of-cap (concat pieces))
 
 pub counted_alike : (rules : Rules) (parts others : List Reading) →
-    events_within rules.limits.lines (whole_reading parts) ≡ events_within rules.limits.lines (whole_reading others) →
-    malformed_line rules.limits.lines (whole_reading parts) ≡ malformed_line rules.limits.lines (whole_reading others) → AreJudgedAlike parts others rules
+    counted_events parts rules ≡ counted_events others rules → faulty_line parts rules ≡ faulty_line others rules → AreJudgedAlike parts others rules
 counted_alike rules parts others same same_fault =
     record {
       verdicts = λ verdict. (same_verdict rules parts others same same_fault verdict, same_verdict rules others parts (sym same) (sym same_fault) verdict);
@@ -58,4 +59,4 @@ judged_alike pieces rules =
     let parts = map reading_of (blocks_from nothing_yet pieces) in
     let text = reading_of (concat pieces) in
     let same : whole_reading parts ≡ whole_reading (text ∷ []) = chunks_read pieces ∙ sym (one_read text) in
-    counted_alike rules parts (text ∷ []) (ap (events_within rules.limits.lines) same) (ap (malformed_line rules.limits.lines) same)
+    counted_alike rules parts (text ∷ []) (counted_same rules parts (text ∷ []) same) (ap (malformed_line rules.limits.lines) same)

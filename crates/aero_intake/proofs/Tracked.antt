@@ -22,7 +22,7 @@ use Rattle.aero_pieces.specs.declared.answer.Value.{Value}
 use Rattle.aero_pieces.specs.declared.answer.Value.TheVariants.{Parsed, Judged, Ordered, Explained, Opened}
 use Rattle.aero_pieces.specs.Values.{IsValueOf}
 use Rattle.aero_judge.specs.Finding.{IsFinding, IsTraceFinding}
-use Rattle.aero_model.specs.Terms.{Terms, asking, to_the_end}
+use Rattle.aero_model.specs.Terms.{Terms, on, ruled, to_the_end}
 use Rattle.aero_intake.specs.Held.{Known, with_next, IsDecisive}
 use Rattle.aero_intake.specs.Intake.{Taking, IsTaken}
 use Rattle.aero_intake.specs.declared.track.Track.{Track}
@@ -43,17 +43,17 @@ own_chunk-same s trace number bytes same = ap (λ b. if b then bytes ∷ [] else
 
 pub own_chunk-other : (s : ℕ) (q : Question) → (trace_of q ≡ s → ⊥) → own_chunk s q ≡ []
 own_chunk-other s (Parse trace number bytes) other = ap (λ b. if b then bytes ∷ [] else []) (ne_eqb trace s other)
-own_chunk-other s (Check trace parts limits labels order explain) other = refl
+own_chunk-other s (Check trace parts limits labels end order explain) other = refl
 
-own_check-same : (s trace : ℕ) (parts : List Reading) (limits : Limits) (labels : Listed) (order explain : Bool) → trace ≡ s →
-    own_check s (Check trace parts limits labels order explain) ≡ record { parts = parts; terms = asking limits labels order explain } ∷ []
-own_check-same s trace parts limits labels order explain same =
-    ap (λ b. if b then record { parts = parts; terms = asking limits labels order explain } ∷ [] else []) (eq-eqb trace s same)
+own_check-same : (s trace : ℕ) (parts : List Reading) (limits : Limits) (labels : Listed) (end order explain : Bool) → trace ≡ s →
+    own_check s (Check trace parts limits labels end order explain) ≡ record { parts = parts; terms = on (ruled limits labels end) order explain } ∷ []
+own_check-same s trace parts limits labels end order explain same =
+    ap (λ b. if b then record { parts = parts; terms = on (ruled limits labels end) order explain } ∷ [] else []) (eq-eqb trace s same)
 
 pub own_check-other : (s : ℕ) (q : Question) → (trace_of q ≡ s → ⊥) → own_check s q ≡ []
 own_check-other s (Parse trace number bytes) other = refl
-own_check-other s (Check trace parts limits labels order explain) other =
-    ap (λ b. if b then record { parts = parts; terms = asking limits labels order explain } ∷ [] else []) (ne_eqb trace s other)
+own_check-other s (Check trace parts limits labels end order explain) other =
+    ap (λ b. if b then record { parts = parts; terms = on (ruled limits labels end) order explain } ∷ [] else []) (ne_eqb trace s other)
 
 pub chunks_asked-more : (s : ℕ) (qs : List Question) (q : Question) → chunks_asked s (qs ++ q ∷ []) ≡ chunks_asked s qs ++ own_chunk s q
 chunks_asked-more s [] q = append-nil (own_chunk s q)
@@ -205,21 +205,21 @@ trace_found ending terms story bytes parts asked f same has known =
     (found_as_far (map reading_of story.chunks) terms f found)))
 
 -- what is known of the source whose trace was checked
-settled_check : (terms : Terms) (trace : ℕ) (parts : List Reading) (limits : Limits) (labels : Listed) (order explain : Bool) (rest : List Question)
+settled_check : (terms : Terms) (trace : ℕ) (parts : List Reading) (limits : Limits) (labels : Listed) (end order explain : Bool) (rest : List Question)
     (s : ℕ) (story : Story) (t : Track) (f : Finding) →
-    trace ≡ s → ∥ IsTraceFinding parts (asking limits labels order explain) f ∥₁ →
-    IsTracked terms (Check trace parts limits labels order explain ∷ rest) s story t → IsTracked terms rest s story (with_finding t f)
-settled_check terms trace parts limits labels order explain rest s story (Arriving k) f same known is =
-    (record { on = is.0.on; all = is.0.all }, nil_right (own_check s (Check trace parts limits labels order explain)) (checks_asked s rest) is.1, is.2)
-settled_check terms trace parts limits labels order explain rest s story (Arrived n ending chunks k) f same known is =
-    (record { on = is.0.on; all = is.0.all }, nil_right (own_check s (Check trace parts limits labels order explain)) (checks_asked s rest) is.1, is.2)
-settled_check terms trace parts limits labels order explain rest s story (Checking n ending) f same known is =
+    trace ≡ s → ∥ IsTraceFinding parts (on (ruled limits labels end) order explain) f ∥₁ →
+    IsTracked terms (Check trace parts limits labels end order explain ∷ rest) s story t → IsTracked terms rest s story (with_finding t f)
+settled_check terms trace parts limits labels end order explain rest s story (Arriving k) f same known is =
+    (record { on = is.0.on; all = is.0.all }, nil_right (own_check s (Check trace parts limits labels end order explain)) (checks_asked s rest) is.1, is.2)
+settled_check terms trace parts limits labels end order explain rest s story (Arrived n ending chunks k) f same known is =
+    (record { on = is.0.on; all = is.0.all }, nil_right (own_check s (Check trace parts limits labels end order explain)) (checks_asked s rest) is.1, is.2)
+settled_check terms trace parts limits labels end order explain rest s story (Checking n ending) f same known is =
     let all = subst (λ cs. All (λ a. a ≡ record { parts = map reading_of story.chunks; terms = to_the_end terms }) (cs ++ checks_asked s rest))
-    (own_check-same s trace parts limits labels order explain same) is.0 in
+    (own_check-same s trace parts limits labels end order explain same) is.0 in
     let first = All-head (λ a. a ≡ record { parts = map reading_of story.chunks; terms = to_the_end terms })
-    (record { parts = parts; terms = asking limits labels order explain }) (checks_asked s rest) all in
-    (is.1.ended, is.1.byte_count, trace_found ending terms story n parts (asking limits labels order explain) f first is.1 known)
-settled_check terms trace parts limits labels order explain rest s story (Found g) f same known is = is
+    (record { parts = parts; terms = on (ruled limits labels end) order explain }) (checks_asked s rest) all in
+    (is.1.ended, is.1.byte_count, trace_found ending terms story n parts (on (ruled limits labels end) order explain) f first is.1 known)
+settled_check terms trace parts limits labels end order explain rest s story (Found g) f same known is = is
 
 -- what is known of the source of which a question is settled
 settled_own : (terms : Terms) (q : Question) (rest : List Question) (s most : ℕ) (certain : Bool) (story : Story) (t : Track) (v : Value) → trace_of q ≡ s →
@@ -237,16 +237,16 @@ settled_own terms (Parse trace number bytes) rest s most certain story t (Explai
     absurd (not_explained trace number bytes w steps known)
 settled_own terms (Parse trace number bytes) rest s most certain story t (Opened w blocks) same known is =
     absurd (not_opened trace number bytes w blocks known)
-settled_own terms (Check trace parts limits labels order explain) rest s most certain story t (Parsed r) same known is =
-    absurd (not_parsed trace parts limits labels order explain r known)
-settled_own terms (Check trace parts limits labels order explain) rest s most certain story t (Judged w) same known is =
-    settled_check terms trace parts limits labels order explain rest s story t (findings.Judged w) same known is
-settled_own terms (Check trace parts limits labels order explain) rest s most certain story t (Ordered w steps) same known is =
-    settled_check terms trace parts limits labels order explain rest s story t (findings.Ordered w steps) same known is
-settled_own terms (Check trace parts limits labels order explain) rest s most certain story t (Explained w steps) same known is =
-    settled_check terms trace parts limits labels order explain rest s story t (findings.Explained w steps) same known is
-settled_own terms (Check trace parts limits labels order explain) rest s most certain story t (Opened w blocks) same known is =
-    settled_check terms trace parts limits labels order explain rest s story t (findings.Opened w blocks) same known is
+settled_own terms (Check trace parts limits labels end order explain) rest s most certain story t (Parsed r) same known is =
+    absurd (not_parsed trace parts limits labels end order explain r known)
+settled_own terms (Check trace parts limits labels end order explain) rest s most certain story t (Judged w) same known is =
+    settled_check terms trace parts limits labels end order explain rest s story t (findings.Judged w) same known is
+settled_own terms (Check trace parts limits labels end order explain) rest s most certain story t (Ordered w steps) same known is =
+    settled_check terms trace parts limits labels end order explain rest s story t (findings.Ordered w steps) same known is
+settled_own terms (Check trace parts limits labels end order explain) rest s most certain story t (Explained w steps) same known is =
+    settled_check terms trace parts limits labels end order explain rest s story t (findings.Explained w steps) same known is
+settled_own terms (Check trace parts limits labels end order explain) rest s most certain story t (Opened w blocks) same known is =
+    settled_check terms trace parts limits labels end order explain rest s story t (findings.Opened w blocks) same known is
 
 pub value_goes : (terms : Terms) (tale : ℕ → Story) (q : Question) (rest : List Question) (v : Value) (most : ℕ) (certain : Bool) (tracks : List Track) →
     IsValueOf q v →
@@ -322,14 +322,14 @@ no_chunks_left readings rs chunks (b ∷ bs) is same =
 -- the verdict on a whole source is asked for once all its chunks are read
 pub asked_check : (terms : Terms) (qs : List Question) (s bytes : ℕ) (ending : Ending) (chunks : ℕ) (story : Story) (known : Known) → length known.parts ≡ chunks →
     IsTracked terms qs s story (Arrived bytes ending chunks known) →
-    IsTracked terms (qs ++ Check s known.parts terms.rules.limits terms.rules.labels terms.order terms.explain ∷ []) s story (Checking bytes ending)
+    IsTracked terms (qs ++ Check s known.parts terms.rules.limits terms.rules.labels terms.rules.end terms.order terms.explain ∷ []) s story (Checking bytes ending)
 asked_check terms qs s bytes ending chunks story known ready is =
     let readings = known.parts in
     let all_read = no_chunks_left readings [] story.chunks (chunks_asked s qs) is.0.all (ready ∙ is.2.chunk_count) in
-    let one : checks_asked s (qs ++ Check s readings terms.rules.limits terms.rules.labels terms.order terms.explain ∷ []) ≡
+    let one : checks_asked s (qs ++ Check s readings terms.rules.limits terms.rules.labels terms.rules.end terms.order terms.explain ∷ []) ≡
     record { parts = readings; terms = to_the_end terms } ∷ [] =
-    checks_asked-more s qs (Check s readings terms.rules.limits terms.rules.labels terms.order terms.explain)
-    ∙ ap₂ (λ xs ys. xs ++ ys) is.1 (own_check-same s s readings terms.rules.limits terms.rules.labels terms.order terms.explain refl) in (
+    checks_asked-more s qs (Check s readings terms.rules.limits terms.rules.labels terms.rules.end terms.order terms.explain)
+    ∙ ap₂ (λ xs ys. xs ++ ys) is.1 (own_check-same s s readings terms.rules.limits terms.rules.labels terms.rules.end terms.order terms.explain refl) in (
       subst (λ cs. All (λ a. a ≡ record { parts = map reading_of story.chunks; terms = to_the_end terms }) cs) (sym one)
           (All-cons (λ a. a ≡ record { parts = map reading_of story.chunks; terms = to_the_end terms }) (record { parts = readings; terms = to_the_end terms }) []
           (ap (λ rs. record { parts = rs; terms = to_the_end terms }) all_read) (All-nil (λ a. a ≡ record { parts = map reading_of story.chunks; terms = to_the_end terms }))),

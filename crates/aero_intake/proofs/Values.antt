@@ -34,6 +34,6 @@ pub not_opened : (trace number : ℕ) (bytes : List ℕ) (verdict : Verdict) (bl
 not_opened trace number bytes verdict blocks is = ∥∥₁_elim is (λ x y. absurd x) (λ e. e)
 
 -- and the question on a trace by a verdict
-pub not_parsed : (trace : ℕ) (parts : List Reading) (limits : Limits) (labels : Listed) (order explain : Bool) (parsed : Reading) →
-    IsValueOf (Check trace parts limits labels order explain) (Parsed parsed) → ⊥
-not_parsed trace parts limits labels order explain parsed is = ∥∥₁_elim is (λ x y. absurd x) (λ e. e)
+pub not_parsed : (trace : ℕ) (parts : List Reading) (limits : Limits) (labels : Listed) (end order explain : Bool) (parsed : Reading) →
+    IsValueOf (Check trace parts limits labels end order explain) (Parsed parsed) → ⊥
+not_parsed trace parts limits labels end order explain parsed is = ∥∥₁_elim is (λ x y. absurd x) (λ e. e)

@@ -10,7 +10,7 @@ use Rattle.aero_pieces.specs.declared.question.Question.TheVariants.{Parse, Chec
 use Rattle.aero_pieces.specs.declared.answer.Value.{Value}
 use Rattle.aero_pieces.specs.Values.{IsValueOf}
 use Rattle.aero_judge.specs.Finding.{IsFinding}
-use Rattle.aero_model.specs.Terms.{Terms, asking, to_the_end}
+use Rattle.aero_model.specs.Terms.{Terms, on, ruled, to_the_end}
 use Rattle.aero_intake.specs.Held.{Known, IsDecisive}
 use Rattle.aero_intake.specs.declared.track.Track.{Track}
 use Rattle.aero_intake.specs.declared.track.Track.TheVariants.{Arriving, Arrived, Checking, Found}
@@ -30,7 +30,7 @@ pub record Asked : Type 0 where
 -- the chunk that a question is about, where it is of the source
 abbrev pub own_chunk : ℕ → Question → List (List ℕ)
 own_chunk s (Parse trace number bytes) = if trace == s then bytes ∷ [] else []
-own_chunk s (Check trace parts limits labels order explain) = []
+own_chunk s (Check trace parts limits labels end order explain) = []
 
 -- the chunks of the source that are asked about, in order
 abbrev pub chunks_asked : ℕ → List Question → List (List ℕ)
@@ -39,8 +39,8 @@ chunks_asked s (q ∷ more) = own_chunk s q ++ chunks_asked s more
 
 abbrev pub own_check : ℕ → Question → List Asked
 own_check s (Parse trace number bytes) = []
-own_check s (Check trace parts limits labels order explain) =
-    if trace == s then record { parts = parts; terms = asking limits labels order explain } ∷ [] else []
+own_check s (Check trace parts limits labels end order explain) =
+    if trace == s then record { parts = parts; terms = on (ruled limits labels end) order explain } ∷ [] else []
 
 abbrev pub checks_asked : ℕ → List Question → List Asked
 checks_asked s [] = []
@@ -95,7 +95,7 @@ AreTracked terms qs tale tracks = (s : ℕ) (t : Track) → slice_get tracks s �
 -- the number of the trace that a question is about
 abbrev pub trace_of : Question → ℕ
 trace_of (Parse trace number bytes) = trace
-trace_of (Check trace parts limits labels order explain) = trace
+trace_of (Check trace parts limits labels end order explain) = trace
 
 -- the list with another element at the place, if it has one there
 abbrev pub changed : {A : Type 0} → ℕ → (A → A) → List A → List A

@@ -1,15 +1,19 @@
 -- What a record of a violating trace tells of its cycles.
 use Rattle.std.proofs.Common.{◌≡◌, ℕ, zero, suc, ◌<◌, ◌≤◌, ◌^◌, ◌==◌, true, false, List, [], ◌∷◌, ◌++◌, ◌-◌, length, map, take, Some, option_map, inl, inr, refl, sym, ◌∙◌, ap, subst, arith}
-use Rattle.std.specs.Prelude.{slice_get, flat_map, All, Vec}
+use Rattle.std.specs.Prelude.{slice_get, flat_map, unwrap_or, All, Bool, Vec, if◌then◌else◌}
 use Rattle.std.specs.Global.{Global}
 use Rattle.std.specs.List.{AllZip}
-use Rattle.std.proofs.lemmas.Bool.{cases_lt, cases_eq, eq-eqb, ne_eqb, cond-true, cond-false}
+use Rattle.std.proofs.lemmas.Bool.{and_parts, cases_lt, cases_eq, eq-eqb, ne_eqb, cond-true, cond-false}
 use Rattle.std.proofs.lemmas.List.{length-map}
-use Rattle.std.proofs.lemmas.Option.{slice_get_within}
+use Rattle.std.proofs.lemmas.Option.{slice_get_within, slice_get-map}
+use Rattle.aero_model.specs.declared.event.Op.{Op}
+use Rattle.aero_model.specs.declared.event.Op.TheVariants as op
 use Rattle.aero_model.specs.declared.numbered.Numbered.{Numbered}
+use Rattle.aero_model.specs.declared.numbered.What.TheVariants.{End, Exempt}
 use Rattle.aero_model.specs.declared.verdict.CycleStep.{CycleStep}
 use Rattle.aero_model.specs.declared.verdict.CycleTransaction.{CycleTransaction}
-use Rattle.aero_model.specs.Blocks.{Transaction, Block, transaction, blocks, IsOpen}
+use Rattle.aero_model.specs.Blocks.{Transaction, Block, transaction, blocks, by_thread, depth, is_begin, opens, IsOpen}
+use Rattle.aero_model.specs.Exempt.{Marked, ends_exempt, judged, judged_what, marked, marked_trace}
 use Rattle.aero_model.specs.Graph as graph
 use Rattle.aero_model.specs.Graph.{IsVisit, GoesOn, IsTelling, BeginsCycle}
 use Rattle.aero_model.specs.Cycle.{HasTellingCycle, IsClosing}
@@ -19,11 +23,12 @@ use Rattle.aero_model.specs.declared.verdict.Verdict.TheVariants.{Serializable, 
 use Rattle.aero_model.specs.Named.{Named}
 use Rattle.aero_model.proofs.Cycles.{begins_open}
 use Rattle.aero_model.proofs.Depths.{opening_at}
+use Rattle.aero_model.proofs.Exempt.{judged_at}
 use Rattle.aero_model.proofs.Telling.{telling_from_begins}
 use Rattle.aero_model.proofs.Walks.{begins_same}
 use Rattle.aero_model.proofs.Stability.{Agree, agree_back}
-use Rattle.aero_grammar.specs.Reading.{Reading, IsReading, whole_reading}
-use Rattle.aero_model.specs.Numbering.{tables_of}
+use Rattle.aero_grammar.specs.Reading.{Reading, IsReading}
+use Rattle.aero_model.specs.Numbering.{Tables, tables_of, what_of}
 use Rattle.aero_witness.specs.declared.visit.Visit.{Visit}
 use Rattle.aero_witness.specs.Parts.{AreFirstsTo}
 use Rattle.aero_witness.specs.Telling.{visit_of, visits_of, IsTellingCycle, IsShortest}
@@ -47,11 +52,10 @@ use Rattle.aero_verdict.specs.Monitored.{TellsFed}
 use Rattle.aero_judge.specs.Records.{IsRecordOf, round_of, AreShown, CanBeShown, IsEventAt, IsStepAt, IsTransactionOf}
 use Rattle.aero_verdict.specs.Verdict.{counted_events, events_of, checked_trace, IsOnLine, IsViolation}
 use Rattle.aero_model.specs.Terms.{Rules}
-use Rattle.aero_verdict.proofs.Readings.{rising_within}
 use Rattle.aero_verdict.proofs.Rounds.{round_within, enters_within}
 use Rattle.aero_judge.proofs.Keeping as keeping
 use Rattle.aero_judge.proofs.Keeping.{at_line, label_is}
-use Rattle.aero_judge.proofs.Rising.{whole_rises, one_within}
+use Rattle.aero_judge.proofs.Rising.{begins_alone}
 
 -- so are the places at which these visits come in
 visits_within : (n : ℕ) (vs : List Visit) → All (λ (v : graph.Visit). v.enters < n) (visits_of vs) → All (λ (v : Visit). v.enters < n) vs
@@ -103,6 +107,33 @@ module _ (trace kept : List Numbered) (places : List ℕ) (thin : IsThinned trac
   round_stands : (v w : graph.Visit) (vs ws : List graph.Visit) → IsPlaced places v w → AllZip (IsPlaced places) vs ws → AllZip Stands (round_places v vs) (round_places w ws)
   round_stands v w vs ws at ats =
       (at.leaves, zip_joined Stands (flat_map visit_places vs) (v.enters ∷ []) (flat_map visit_places ws) (w.enters ∷ []) (walk_stands vs ws ats) (at.enters, tt))
+
+-- where a block begins, a begin was read
+begin_read : (T : Tables) (before : List Marked) (t : ℕ) (exempt : Bool) (o : Op) (target : List ℕ) → is_begin (judged_what before t exempt (what_of T o target)) ≡ true → o ≡ op.Begin
+begin_read T before t exempt op.Begin target is = refl
+begin_read T before t exempt op.End target is = absurd (of_end (ends_exempt before t) is)
+  where
+    of_end : (b : Bool) → is_begin (if b then Exempt else End) ≡ true → ⊥
+    of_end true is = cc
+    of_end false is = cc
+begin_read T before t exempt op.Read target is = absurd (cc)
+begin_read T before t exempt op.Write target is = absurd (cc)
+begin_read T before t exempt op.Acquire target is = absurd (cc)
+begin_read T before t exempt op.Release target is = absurd (cc)
+begin_read T before t exempt op.Fork target is = absurd (cc)
+begin_read T before t exempt op.Join target is = absurd (cc)
+
+begin_named : (parts : List Reading) (rules : Rules) (t q : ℕ) → opens (checked_trace parts rules) t q ≡ true → (e : ℕ × Named) → slice_get (counted_events parts rules) q ≡ Some e → e.1.op ≡ op.Begin
+begin_named parts rules t q opened e here =
+    let names : List Named = events_of parts rules in
+    let T : Tables = tables_of names in
+    let all : List Marked = marked_trace rules.labels names in
+    let m : Marked = marked rules.labels T e.1 in
+    let at : slice_get (checked_trace parts rules) q ≡ Some (judged (take q all) m) =
+    judged_at all q ∙ ap (option_map (judged (take q all))) (slice_get-map (marked rules.labels T) names q ∙ ap (option_map (marked rules.labels T)) (slice_get-map (λ (x : ℕ × Named). x.1) (counted_events parts rules) q ∙ ap (option_map (λ (x : ℕ × Named). x.1)) here)) in
+    let begins : by_thread t is_begin (slice_get (checked_trace parts rules) q) ≡ true = (and_parts (by_thread t is_begin (slice_get (checked_trace parts rules) q)) (depth (checked_trace parts rules) t q == 0) opened).0 in
+    begin_read T (take q all) m.event.thread m.exempt e.1.op (unwrap_or e.1.target [])
+    (and_parts (m.event.thread == t) (is_begin (judged (take q all) m).what) (ap (by_thread t is_begin) (sym at) ∙ begins)).1
 
 module _ (parts : List Reading) (rules : Rules) (numbering : Numbering) (recorder : Recorder) (line : ℕ) (thread : List ℕ) (begun : ℕ) (r : IsRecordOf parts rules numbering recorder line thread begun) where
   abbrev counted : List (ℕ × Named)
@@ -273,7 +304,7 @@ module _ (parts : List Reading) (rules : Rules) (numbering : Numbering) (recorde
         let p = stood begin begin_within in
         let a = at_line (slice_get counted p.0) begun (line_at begin p.0 begun p.1 begin_at) in
         let b = at_line (slice_get counted q) begun r.violation.begins.line_of in
-        p.1 ∙ ap Some (one_within parts all rules.limits.lines p.0 q (begun, a.event) (begun, b.event) a.here b.here refl)
+        p.1 ∙ ap Some (begins_alone parts rules all p.0 q (begun, a.event) (begun, b.event) a.here b.here refl (begin_named parts rules r.violation.t q r.violation.begins.outermost (begun, b.event) b.here))
 
     pub begins : BeginsCycle taken (length taken) (transaction taken begin)
     begins =
@@ -368,13 +399,11 @@ record_of parts rules checker line thread begun all most violation (place, closi
     let same : place ≡ violation.place = one_closing (checked_trace parts rules) place violation.place closing violation.closing in
     let at = at_line (slice_get counted violation.place) line violation.line_of in
     let less = slice_get_within counted violation.place (line, at.event) at.here in
-    let few = rising_within 0 rules.limits.lines (whole_reading parts).events (whole_rises parts all) (omega arith) in
     record {
       violation = violation;
       upto = record {
         readings = all;
         within = omega (arith, less);
-        few = omega (arith, less, few, most);
         lawful = violation.lawful;
         untold = λ m l. violation.closing.before m (omega (arith, l));
         given = keeps.given;

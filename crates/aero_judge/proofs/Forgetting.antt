@@ -128,6 +128,7 @@ module _ (a b : Recorder) (given : List Given) (marks : List Bool) (is : IsMarke
   marked_noted : AreNoted b given
   marked_noted = record {
     count = is.count ∙ noted.count;
+    few = let same = is.count in let few = noted.few in omega (arith, same, few);
     lines = ap length is.lines ∙ marked_long marks a.lines.items a.places.items noted.lines ∙ sym (ap length is.places);
     said = zip_long (SaysSame a.labels.names b.labels.names) (marked marks a.said.items) b.said.items is.said ∙ marked_long marks a.said.items a.places.items noted.said ∙ sym (ap length is.places);
     each = each;
@@ -149,6 +150,7 @@ module _ (a b : Recorder) (given : List Given) (marks : List Bool) (is : IsMarke
 same_noted : (a b : Recorder) (given : List Given) → IsAsBefore a b → AreNoted a given → AreNoted b given
 same_noted a b given is noted = record {
   count = is.count ∙ noted.count;
+  few = let same = is.count in let few = noted.few in omega (arith, same, few);
   lines = ap (λ v. length v.items) is.lines ∙ noted.lines ∙ sym (ap (λ v. length v.items) is.places);
   said = ap (λ v. length v.items) is.said ∙ noted.said ∙ sym (ap (λ v. length v.items) is.places);
   each = λ i p g at here.
@@ -202,6 +204,7 @@ module _ (b d : Recorder) (given : List Given) (g : Given) (kept : Kept b given)
   next_noted : AreNoted d (given ++ g ∷ [])
   next_noted = record {
     count = (let count = next.count in let before = (kept.noted).count in omega (arith, count, before, length_push given g));
+    few = next.few;
     lines = (let l = (kept.noted).lines in ap length next.lines ∙ omega (arith, l, length_push b.lines.items g.line, length_push b.places.items b.count) ∙ sym (ap length next.places));
     said = (let l = (kept.noted).said in ap length next.said ∙ omega (arith, l, length_push b.said.items next.code, length_push b.places.items b.count) ∙ sym (ap length next.places));
     each = each;
@@ -270,7 +273,7 @@ module _ (a b d : Recorder) (l : Leads) (given : List Given) (g : Given) (r : Re
           subst (λ x. IfOk x (Tells (standing.StandsFor l) (h ++ e ∷ []) (length h))) ok (tells h e (last_judged given g h e both) (comes given g h e both (standing.StandsFor a.leads) stands)) in
           let noted = next_noted b d given g kept next in
           record {
-            noted = record { count = noted.count; lines = noted.lines; said = noted.said; each = λ i p f at here. (let n = noted.each i p f at here in record { line = n.line; code = n.code; code_at = n.code_at; said = n.said }) };
+            noted = record { count = noted.count; few = noted.few; lines = noted.lines; said = noted.said; each = λ i p f at here. (let n = noted.each i p f at here in record { line = n.line; code = n.code; code_at = n.code_at; said = n.said }) };
             enough = next_enough b d given g kept next;
             latest = next_latest b d given g kept next;
             stands = λ untold. now.stands (none o now.told untold);

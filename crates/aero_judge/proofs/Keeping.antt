@@ -165,7 +165,7 @@ module _ (parts : List Reading) (rules : Rules) (numbering : Numbering) (recorde
   lines_long = noted.lines ∙ thin.each
 
   pub few_events : length taken < 2 ^ 32
-  few_events = let l = told_long in let f = r.few in let each = thin.each in omega (arith, l, f, each, few_places told taken places thin)
+  few_events = let l = length-map r.given recorded in let f = noted.few in let count = noted.count in let each = thin.each in omega (arith, l, f, count, each, few_places told taken places thin)
 
   pub few_lines : length lines < 2 ^ 32
   few_lines = let l = lines_long in let f = few_events in omega (arith, l, f)

@@ -41,9 +41,8 @@ use Rattle.aero_verdict.specs.Verdict.{counted_events, events_of, read_trace, ch
 use Rattle.aero_model.specs.Terms.{Rules}
 use Rattle.aero_judge.proofs.Keeping as keeping
 use Rattle.aero_judge.proofs.Keeping.{label_is, thread_is}
-use Rattle.aero_verdict.proofs.Readings.{none_past, rising_within}
+use Rattle.aero_verdict.proofs.Readings.{none_past}
 use Rattle.aero_judge.proofs.Recording as recording
-use Rattle.aero_judge.proofs.Rising.{whole_rises}
 
 -- the places of begins whose transactions haven't ended, with one event more
 pub none_begun : (events : List Numbered) → AreBegunTo events 0 []
@@ -287,7 +286,6 @@ whole_of : (parts : List Reading) (rules : Rules) (checker : Checker Recorder) (
     → IsWholeRecord parts rules checker.numbering checker.engine
 whole_of parts rules checker events blocks pending all most tells =
     let counted = counted_events parts rules in
-    let few = rising_within 0 rules.limits.lines (whole_reading parts).events (whole_rises parts all) (omega arith) in
     let keeps = tells.keeps_at in
     let clean = tells.on.is_verdict.1.clean in
     let within : length counted ≤ length counted = le_refl (length counted) in
@@ -295,7 +293,6 @@ whole_of parts rules checker events blocks pending all most tells =
     record {
       readings = all;
       within = within;
-      few = omega (arith, few, most);
       lawful = subst (IsLawful rules.limits (read_trace parts rules)) long clean.lawful;
       untold = λ m l told. clean.no_cycle (telling_more (checked_trace parts rules) m (length (checked_trace parts rules)) (omega (arith, l, long)) told);
       given = keeps.given;

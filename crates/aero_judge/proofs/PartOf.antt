@@ -14,7 +14,7 @@ use Rattle.aero_model.specs.Terms.{Rules}
 
 -- the checker with another engine
 abbrev pub with_engine : {E F : Type 0} → Checker E → F → Checker F
-with_engine checker engine = record { numbering = checker.numbering; shape = checker.shape; engine = engine; blocks = checker.blocks }
+with_engine checker engine = record { ends = checker.ends; numbering = checker.numbering; shape = checker.shape; engine = engine; blocks = checker.blocks }
 
 module _ {E F : Type 0} (words : Words E) (part : Words F) (f : E → F) (stands : (e : E) (trace : List Numbered) → words.stands e trace → part.stands (f e) trace) (keeps : (e : E) (given : List Given) → words.keeps e given → part.keeps (f e) given) (rules : Rules) where
   first_kept : (events : List (ℕ × Named)) (n : ℕ) (e : E) → KeepsFirst words.keeps rules events n e → KeepsFirst part.keeps rules events n (f e)

@@ -1,12 +1,18 @@
--- The lines of a trace rise, so each has one event at most.
-use Rattle.std.proofs.Common.{◌≡◌, ℕ, zero, suc, ◌+◌, ◌<◌, ◌≤◌, ◌==◌, nat_le, Bool, true, false, List, [], ◌∷◌, ◌++◌, length, map, get_or, Some, refl, sym, ◌∙◌, ap, subst, arith}
-use Rattle.std.specs.Prelude.{slice_get, filter, find, is_some, All}
-use Rattle.std.proofs.lemmas.Bool.{eq-eqb, ne_eqb, cond-true, cond-false}
-use Rattle.std.proofs.lemmas.Option.{same_Some, slice_get_within, get_or_from_slice_get}
+-- The lines of a trace rise, so each has one event at most; with the ends of blocks that are open, each has one begin at most, which stands alone.
+use Rattle.std.proofs.Common.{◌≡◌, ◌⊎◌, ℕ, zero, suc, ◌+◌, ◌-◌, ◌<◌, ◌≤◌, ◌&&◌, nat_le, not, Bool, true, false, if◌then◌else◌, List, [], ◌∷◌, ◌++◌, length, map, get_or, Some, inl, inr, refl, sym, ◌∙◌, ap, subst, arith}
+use Rattle.std.specs.Prelude.{bytes_eq, slice_get, filter, is_some, All}
+use Rattle.std.proofs.lemmas.Bool.{cond-true, cond-false}
+use Rattle.std.proofs.lemmas.List.Elements.{All-cons, All-filter, All-nil, All-replicate}
+use Rattle.std.proofs.lemmas.Option.{same_Some, slice_get_within, get_or_from_slice_get, slice_get-get_or}
+use Rattle.aero_model.specs.declared.event.Op.TheVariants as op
+use Rattle.aero_model.specs.Ended.{end_of, ended_after, ends_at_end, ends_before, ends_of, is_join, joins_another, open_of, target_of, without_lines}
 use Rattle.aero_model.specs.Named.{Named}
-use Rattle.aero_grammar.specs.Reading.{Reading, IsReading, LinesRise, after_lines, followed_by, whole_reading, events_within}
-use Rattle.aero_verdict.specs.Actors.{is_on}
+use Rattle.aero_model.specs.Terms.{Rules}
+use Rattle.aero_grammar.specs.Reading.{Reading, IsReading, LinesRise, after_lines, followed_by, whole_reading}
+use Rattle.aero_verdict.specs.Verdict.{counted_events, faulty_line, own_events}
+use Rattle.aero_verdict.proofs.Ending.{counted_is, ended_on, last_ends, last_ones, so_far, with_on}
 use Rattle.aero_verdict.proofs.Readings.{LinesRise-weaker}
+use Rattle.aero_verdict.proofs.ThreadNames.{at_place}
 
 abbrev Events : Type 0
 Events = List (ℕ × Named)
@@ -77,31 +83,10 @@ filtered p n (e ∷ es) rise =
     let more = filtered p e.0 es rise.1 in
     filtered_more p n e es rise.0 more (LinesRise-weaker n e.0 (filter p es) (omega (arith, rise.0)) more) (p e) refl
 
--- what is kept of a list stood in it
-abbrev Stood : Events → ℕ × Named → Type 0
-Stood es x = (k : ℕ) × (slice_get es k ≡ Some x)
-
-kept_more : (p : ℕ × Named → Bool) (e : ℕ × Named) (es : Events) (x : ℕ × Named) → ((i : ℕ) → slice_get (filter p es) i ≡ Some x → Stood es x) → (b : Bool) → p e ≡ b → (i : ℕ) → slice_get (filter p (e ∷ es)) i ≡ Some x → Stood (e ∷ es) x
-kept_more p e es x more true in_it zero at = (zero, sym (ap (λ l. slice_get l zero) (cond-true (p e) (e ∷ filter p es) (filter p es) in_it)) ∙ at)
-kept_more p e es x more true in_it (suc i) at = (let k = more i (sym (ap (λ l. slice_get l (suc i)) (cond-true (p e) (e ∷ filter p es) (filter p es) in_it)) ∙ at) in (suc k.0, k.1))
-kept_more p e es x more false out i at = (let k = more i (sym (ap (λ l. slice_get l i) (cond-false (p e) (e ∷ filter p es) (filter p es) out)) ∙ at) in (suc k.0, k.1))
-
-kept_from : (p : ℕ × Named → Bool) (es : Events) (i : ℕ) (x : ℕ × Named) → slice_get (filter p es) i ≡ Some x → Stood es x
-kept_from p [] i x at = absurd (cc)
-kept_from p (e ∷ es) i x at = kept_more p e es x (λ j there. kept_from p es j x there) (p e) refl i at
-
 above_at : (n : ℕ) (es : Events) → LinesRise n es → (k : ℕ) (x : ℕ × Named) → slice_get es k ≡ Some x → n < x.0
 above_at n [] rise k x at = absurd (cc)
 above_at n (e ∷ es) rise zero x at = subst (λ (d : ℕ × Named). n < d.0) (same_Some e x at) rise.0
 above_at n (e ∷ es) rise (suc k) x at = let h = above_at e.0 es rise.1 k x at in omega (arith, rise.0, h)
-
--- the event that is found on a line is the one there
-found_on : (n : ℕ) (es : Events) → LinesRise n es → (k : ℕ) (x : ℕ × Named) → slice_get es k ≡ Some x → find (is_on x.0) es ≡ Some x
-found_on n [] rise k x at = absurd (cc)
-found_on n (e ∷ es) rise zero x at = cond-true (e.0 == x.0) _ _ (eq-eqb e.0 x.0 (ap (λ (d : ℕ × Named). d.0) (same_Some e x at))) ∙ at
-found_on n (e ∷ es) rise (suc k) x at =
-    let more = above_at e.0 es rise.1 k x at in
-    cond-false (e.0 == x.0) _ _ (ne_eqb e.0 x.0 (λ same. omega (arith, more, same))) ∙ found_on e.0 es rise.1 k x at
 
 -- two places with one line are one
 one_place : (n : ℕ) (es : Events) → LinesRise n es → (i j : ℕ) (x y : ℕ × Named) → slice_get es i ≡ Some x → slice_get es j ≡ Some y → x.0 ≡ y.0 → i ≡ j
@@ -117,11 +102,133 @@ one_place n (e ∷ es) rise (suc i) zero x y at there same =
     absurd (omega (arith, more, first, same))
 one_place n (e ∷ es) rise (suc i) (suc j) x y at there same = ap suc (one_place e.0 es rise.1 i j x y at there same)
 
-module _ (parts : List Reading) (all : All IsReading parts) (limit : ℕ) where
-  pub found_within : (k : ℕ) (x : ℕ × Named) → slice_get (events_within limit (whole_reading parts)) k ≡ Some x → find (is_on x.0) (whole_reading parts).events ≡ Some x
-  found_within k x at =
-      let there = kept_from (λ e. nat_le e.0 limit) (whole_reading parts).events k x at in
-      found_on 0 (whole_reading parts).events (whole_rises parts all) there.0 x there.1
+-- With the ends between them a line may have several events, but a begin stands alone on its line.
+abbrev BeginsAlone : Events → Type 0
+BeginsAlone es = (i j : ℕ) (x y : ℕ × Named) → slice_get es i ≡ Some x → slice_get es j ≡ Some y → x.0 ≡ y.0 → y.1.op ≡ op.Begin → i ≡ j
 
-  pub one_within : (i j : ℕ) (x y : ℕ × Named) → slice_get (events_within limit (whole_reading parts)) i ≡ Some x → slice_get (events_within limit (whole_reading parts)) j ≡ Some y → x.0 ≡ y.0 → i ≡ j
-  one_within i j x y at there same = one_place 0 (events_within limit (whole_reading parts)) (filtered (λ e. nat_le e.0 limit) 0 (whole_reading parts).events (whole_rises parts all)) i j x y at there same
+at_split : (xs ys : Events) (i : ℕ) (x : ℕ × Named) → slice_get (xs ++ ys) i ≡ Some x → (slice_get xs i ≡ Some x) ⊎ ((length xs ≤ i) × (slice_get ys (i - length xs) ≡ Some x))
+at_split [] ys i x at = inr (omega arith, subst (λ k. slice_get ys k ≡ Some x) (let e : i ≡ i - 0 = omega arith in e) at)
+at_split (y ∷ xs) ys zero x at = inl at
+at_split (y ∷ xs) ys (suc i) x at = elim (at_split xs ys i x at) [
+  | inl front ↦ inl front
+  | inr back ↦ inr (omega (arith, back.0), subst (λ k. slice_get ys k ≡ Some x) (let e : i - length xs ≡ suc i - length (y ∷ xs) = omega arith in e) back.1)
+]
+
+-- so it is of one list behind another, where no begin of one stands on a line of the other
+alone_joined : (xs ys : Events) → BeginsAlone xs → BeginsAlone ys →
+    ((i j : ℕ) (x y : ℕ × Named) → slice_get xs i ≡ Some x → slice_get ys j ≡ Some y → x.0 ≡ y.0 → ((x.1.op ≡ op.Begin) ⊎ (y.1.op ≡ op.Begin)) → ⊥) → BeginsAlone (xs ++ ys)
+alone_joined xs ys first second apart i j x y at there same begins = go (at_split xs ys i x at) (at_split xs ys j y there)
+  where
+    go : (slice_get xs i ≡ Some x) ⊎ ((length xs ≤ i) × (slice_get ys (i - length xs) ≡ Some x)) → (slice_get xs j ≡ Some y) ⊎ ((length xs ≤ j) × (slice_get ys (j - length xs) ≡ Some y)) → i ≡ j
+    go (inl a) (inl b) = first i j x y a b same begins
+    go (inl a) (inr b) = absurd (apart i (j - length xs) x y a b.1 same (inr begins))
+    go (inr a) (inl b) = absurd (apart j (i - length xs) y x b a.1 (sym same) (inl begins))
+    go (inr a) (inr b) = let e = second (i - length xs) (j - length xs) x y a.1 b.1 same begins in omega (arith, a.0, b.0, e)
+
+no_begin : (es : Events) → All (λ e. e.1.op ≡ op.End) es → (i : ℕ) (x : ℕ × Named) → slice_get es i ≡ Some x → x.1.op ≡ op.Begin → ⊥
+no_begin es all i x at begins = let ends = at_place (λ (e : ℕ × Named). e.1.op ≡ op.End) es i x all at in cc
+
+all_ends_alone : (es : Events) → All (λ e. e.1.op ≡ op.End) es → BeginsAlone es
+all_ends_alone es all i j x y at there same begins = absurd (no_begin es all j y there begins)
+
+rising_alone : (n : ℕ) (es : Events) → LinesRise n es → BeginsAlone es
+rising_alone n es rise i j x y at there same begins = one_place n es rise i j x y at there same
+
+ends_are_ends : (before : List Named) (e : ℕ × Named) → All (λ x. x.1.op ≡ op.End) (ends_before before e)
+ends_are_ends before e = go (joins_another e.1)
+  where
+    go : (b : Bool) → All (λ x. x.1.op ≡ op.End) (if b then ends_of before e.0 (target_of e.1) else [])
+    go true = All-replicate (λ (x : ℕ × Named). x.1.op ≡ op.End) (open_of before (target_of e.1)) (e.0, end_of (target_of e.1)) refl
+    go false = All-nil (λ (x : ℕ × Named). x.1.op ≡ op.End)
+
+ends_on_line : (before : List Named) (e : ℕ × Named) → All (λ x. x.0 ≡ e.0) (ends_before before e)
+ends_on_line before e = go (joins_another e.1)
+  where
+    go : (b : Bool) → All (λ x. x.0 ≡ e.0) (if b then ends_of before e.0 (target_of e.1) else [])
+    go true = All-replicate (λ (x : ℕ × Named). x.0 ≡ e.0) (open_of before (target_of e.1)) (e.0, end_of (target_of e.1)) refl
+    go false = All-nil (λ (x : ℕ × Named). x.0 ≡ e.0)
+
+-- before a begin there is no end
+none_before_begin : (before : List Named) (e : ℕ × Named) → e.1.op ≡ op.Begin → ends_before before e ≡ []
+none_before_begin before e begins = ap (λ b. if b then ends_of before e.0 (target_of e.1) else []) (ap (λ o. is_join o && not (bytes_eq (target_of e.1) e.1.thread)) begins)
+
+above_all : (n : ℕ) (es : Events) → LinesRise n es → All (λ e. n < e.0) es
+above_all n [] rise = All-nil (λ (e : ℕ × Named). n < e.0)
+above_all n (e ∷ es) rise = All-cons (λ (x : ℕ × Named). n < x.0) e es rise.0 (λ k d less. (let h = above_all e.0 es rise.1 k d less in omega (arith, h, rise.0)))
+
+ended_alone : (n : ℕ) (before : List Named) (es : Events) → LinesRise n es → BeginsAlone (ended_after before es)
+ended_alone n before [] rise = λ i j x y at there same begins. absurd (cc)
+ended_alone n before (e ∷ es) rise =
+    alone_joined ends (e ∷ rest) (all_ends_alone ends (ends_are_ends before e)) (later (ended_alone e.0 (before ++ without_lines (ends_before before e) ++ e.1 ∷ []) es rise.1)) apart
+  where
+    ends : Events
+    ends = ends_before before e
+
+    next : List Named
+    next = before ++ without_lines (ends_before before e) ++ e.1 ∷ []
+
+    rest : Events
+    rest = ended_after next es
+
+    beyond : All (λ x. e.0 < x.0) rest
+    beyond = ended_on (λ m. e.0 < m) next es (above_all e.0 es rise.1)
+
+    beyond_at : (k : ℕ) (x : ℕ × Named) → slice_get rest k ≡ Some x → e.0 < x.0
+    beyond_at k x at = at_place (λ (y : ℕ × Named). e.0 < y.0) rest k x beyond at
+
+    later : BeginsAlone rest → BeginsAlone (e ∷ rest)
+    later alone zero zero x y at there same begins = refl
+    later alone zero (suc j) x y at there same begins = absurd (let far = beyond_at j y there in let first = ap (λ (d : ℕ × Named). d.0) (same_Some e x at) in omega (arith, far, first, same))
+    later alone (suc i) zero x y at there same begins = absurd (let far = beyond_at i x at in let first = ap (λ (d : ℕ × Named). d.0) (same_Some e y there) in omega (arith, far, first, same))
+    later alone (suc i) (suc j) x y at there same begins = ap suc (alone i j x y at there same begins)
+
+    apart : (i j : ℕ) (x y : ℕ × Named) → slice_get ends i ≡ Some x → slice_get (e ∷ rest) j ≡ Some y → x.0 ≡ y.0 → ((x.1.op ≡ op.Begin) ⊎ (y.1.op ≡ op.Begin)) → ⊥
+    apart i j x y at there same (inl begins) = no_begin ends (ends_are_ends before e) i x at begins
+    apart i zero x y at there same (inr begins) =
+        let none = none_before_begin before e (ap (λ (d : ℕ × Named). d.1.op) (same_Some e y there) ∙ begins) in
+        let nothing = sym (ap (λ es. slice_get es i) none) ∙ at in
+        cc
+    apart i (suc j) x y at there same (inr begins) =
+        let far = beyond_at j y there in
+        let here = at_place (λ (d : ℕ × Named). d.0 ≡ e.0) ends i x (ends_on_line before e) at in
+        omega (arith, far, here, same)
+
+module _ (parts : List Reading) (rules : Rules) (all : All IsReading parts) where
+  abbrev own : Events
+  own = own_events parts rules
+
+  own_rises : LinesRise 0 own
+  own_rises = filtered (λ e. nat_le e.0 rules.limits.lines) 0 (whole_reading parts).events (whole_rises parts all)
+
+  own_within : All (λ e. e.0 ≤ (whole_reading parts).lines) own
+  own_within =
+      All-filter (λ e. nat_le e.0 rules.limits.lines) (λ (e : ℕ × Named). e.0 ≤ (whole_reading parts).lines) (whole_reading parts).events
+      (λ k d less. (whole_between parts all).most k (get_or (whole_reading parts).events k d) (slice_get-get_or (whole_reading parts).events k d less))
+
+  so_far_alone : BeginsAlone (so_far parts rules)
+  so_far_alone = go rules.end
+    where
+      go : (b : Bool) → BeginsAlone (if b then ended_after [] own else own)
+      go true = ended_alone 0 [] own own_rises
+      go false = rising_alone 0 own own_rises
+
+  last_late : All (λ e. (e.1.op ≡ op.End) × (e.0 ≡ suc (whole_reading parts).lines)) (last_ends parts rules)
+  last_late = go rules.end (is_some (faulty_line parts rules))
+    where
+      go : (b faulty : Bool) → All (λ (e : ℕ × Named). (e.1.op ≡ op.End) × (e.0 ≡ suc (whole_reading parts).lines))
+          (if b then (if faulty then [] else ends_at_end (without_lines (so_far parts rules)) (suc (whole_reading parts).lines)) else [])
+      go true true = All-nil (λ (e : ℕ × Named). (e.1.op ≡ op.End) × (e.0 ≡ suc (whole_reading parts).lines))
+      go true false = last_ones (λ (e : ℕ × Named). (e.1.op ≡ op.End) × (e.0 ≡ suc (whole_reading parts).lines)) (suc (whole_reading parts).lines) (without_lines (so_far parts rules)) (λ name there. (refl, refl))
+      go false faulty = All-nil (λ (e : ℕ × Named). (e.1.op ≡ op.End) × (e.0 ≡ suc (whole_reading parts).lines))
+
+  -- of the events that count
+  pub begins_alone : BeginsAlone (counted_events parts rules)
+  begins_alone =
+      subst BeginsAlone (sym (counted_is parts rules))
+      (alone_joined (so_far parts rules) (last_ends parts rules) so_far_alone (all_ends_alone (last_ends parts rules) (λ k d less. (last_late k d less).0)) apart)
+    where
+      apart : (i j : ℕ) (x y : ℕ × Named) → slice_get (so_far parts rules) i ≡ Some x → slice_get (last_ends parts rules) j ≡ Some y → x.0 ≡ y.0 → ((x.1.op ≡ op.Begin) ⊎ (y.1.op ≡ op.Begin)) → ⊥
+      apart i j x y at there same begins =
+          let within = at_place (λ (e : ℕ × Named). e.0 ≤ (whole_reading parts).lines) (so_far parts rules) i x (with_on (λ n. n ≤ (whole_reading parts).lines) rules [] own own_within) at in
+          let late = at_place (λ (e : ℕ × Named). (e.1.op ≡ op.End) × (e.0 ≡ suc (whole_reading parts).lines)) (last_ends parts rules) j y last_late there in
+          omega (arith, within, late.1, same)

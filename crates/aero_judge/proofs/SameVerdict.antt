@@ -23,12 +23,12 @@ use Rattle.aero_model.specs.Numbering.{tables_of, trace_of}
 use Rattle.aero_model.specs.Serial.{IsSerialOrder}
 use Rattle.aero_model.specs.Shape.{IsLawful, fault_at}
 use Rattle.aero_model.specs.BlockCounts.{block_count, open_count}
-use Rattle.aero_grammar.specs.Reading.{Reading, whole_reading, events_within, malformed_line}
+use Rattle.aero_grammar.specs.Reading.{Reading, whole_reading}
 use Rattle.aero_judge.proofs.Zipped.{zip_as}
 use Rattle.aero_verdict.specs.Explained.{round_places, IsFirstOf, IsLastOf, IsEnd, IsExtent, IsCycleStep, IsCycleTransaction, IsExplained, IsCycleOf}
 use Rattle.aero_judge.specs.Opened.{AreOpenings, IsOpenBlock, AreOpenBlocks}
 use Rattle.aero_verdict.specs.Ordered.{step_at, AreStepsInOrder}
-use Rattle.aero_verdict.specs.Verdict.{IsVerdict, IsViolation, IsIllFormed, IsMalformed, IsFaultless, IsClean, BeginsOnLine}
+use Rattle.aero_verdict.specs.Verdict.{counted_events, faulty_line, IsVerdict, IsViolation, IsIllFormed, IsMalformed, IsFaultless, IsClean, BeginsOnLine}
 use Rattle.aero_model.specs.Terms.{Rules}
 
 -- one part alone
@@ -45,10 +45,9 @@ one_read r = go r.events r.lines r.fault
 
 -- a verdict, the serial order and the events of a cycle speak of parts through the events that count and the malformed line
 module _ (rules : Rules) (parts others : List Reading)
-    (same : events_within rules.limits.lines (whole_reading parts) ≡ events_within rules.limits.lines (whole_reading others))
-    (same_fault : malformed_line rules.limits.lines (whole_reading parts) ≡ malformed_line rules.limits.lines (whole_reading others)) where
+    (same : counted_events parts rules ≡ counted_events others rules) (same_fault : faulty_line parts rules ≡ faulty_line others rules) where
   abbrev counted : List Reading → List (ℕ × Named)
-  counted rs = events_within rules.limits.lines (whole_reading rs)
+  counted rs = counted_events rs rules
 
   abbrev named : List (ℕ × Named) → List Named
   named es = map (λ e. e.1) es

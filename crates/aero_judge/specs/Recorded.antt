@@ -1,5 +1,5 @@
 -- What a `Recorder` keeps of the events that it is given, and for which it stands.
-use Rattle.std.specs.Prelude.{◌≡◌, ℕ, suc, ◌+◌, ◌<◌, Bool, List, [], ◌∷◌, ◌++◌, length, take, slice_get, Option, None, Some, map}
+use Rattle.std.specs.Prelude.{◌≡◌, ℕ, suc, ◌+◌, ◌^◌, ◌<◌, Bool, List, [], ◌∷◌, ◌++◌, length, take, slice_get, Option, None, Some, map}
 use Rattle.std.specs.List.{AllZip}
 use Rattle.aero_model.specs.declared.numbered.Numbered.{Numbered}
 use Rattle.aero_model.specs.declared.numbered.What.{What}
@@ -68,6 +68,7 @@ pub record IsNoted (recorder : Recorder) (i : ℕ) (g : Given) : Type 0 where
 -- the record has the events at its places, with their lines and codes
 pub record AreNoted (recorder : Recorder) (given : List Given) : Type 0 where
   pub count : recorder.count ≡ length given
+  pub few : recorder.count < 2 ^ 32
   pub lines : length recorder.lines.items ≡ length recorder.places.items
   pub said : length recorder.said.items ≡ length recorder.places.items
   pub each : (i p : ℕ) (g : Given) → slice_get recorder.places.items i ≡ Some p → slice_get given p ≡ Some g → IsNoted recorder i g
@@ -93,6 +94,7 @@ pub record IsNotedNext (old new : Recorder) (g : Given) : Type 0 where
   pub lines : new.lines.items ≡ old.lines.items ++ g.line ∷ []
   pub places : new.places.items ≡ old.places.items ++ old.count ∷ []
   pub count : new.count ≡ suc old.count
+  pub few : new.count < 2 ^ 32
   pub code : ℕ
   pub said : new.said.items ≡ old.said.items ++ code ∷ []
   pub is_said : IsSaidOf new.labels.names g code

@@ -1,5 +1,5 @@
 -- What is recorded of the first events of a trace, as up to the one with which a cycle closes, and what is told of them.
-use Rattle.std.specs.Prelude.{◌≡◌, ◌↔◌, ◌<◌, ◌≤◌, ◌^◌, ℕ, suc, true, All, List, [], ◌∷◌, length, take, slice_get, Option, Some, option_map, option_and_then}
+use Rattle.std.specs.Prelude.{◌≡◌, ◌↔◌, ◌<◌, ◌≤◌, ℕ, suc, true, All, List, [], ◌∷◌, length, take, slice_get, Option, Some, option_map, option_and_then}
 use Rattle.aero_model.specs.declared.numbered.Numbered.{Numbered}
 use Rattle.aero_model.specs.declared.numbered.What.{What}
 use Rattle.aero_model.specs.declared.numbered.What.TheVariants.{Begin}
@@ -36,7 +36,6 @@ use Rattle.aero_model.specs.Terms.{Rules}
 pub record IsRecordTo (parts : List Reading) (rules : Rules) (numbering : Numbering) (recorder : Recorder) (n : ℕ) : Type 0 where
   pub readings : All IsReading parts
   pub within : n ≤ length (counted_events parts rules)
-  pub few : n < 2 ^ 32
   pub lawful : IsLawful rules.limits (read_trace parts rules) n
   pub untold : (m : ℕ) → m < n → ¬ HasTellingCycle (checked_trace parts rules) m
   pub given : List Given

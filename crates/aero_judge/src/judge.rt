@@ -233,7 +233,7 @@ impl Judge {
 fn boxed<E: Engine>(alloc: Global, terms: &Terms) -> Result<Box<Monitor<E>, Global>, AllocError>
     ensures { IfOk result (λ monitor. monitor.value ≡ fed_nothing terms.now.rules) }
 {
-    let monitor = Monitor::new(alloc, terms.limits(), terms.except());
+    let monitor = Monitor::ruled(alloc, terms.limits(), terms.except(), terms.end());
     Ok(Box::new(alloc, monitor)?)
 }
 

@@ -46,7 +46,7 @@ many_without : (n line : ℕ) (e : Named) → without_lines (replicate n (line, 
 many_without zero line e = refl
 many_without (suc n) line e = ap (λ es. e ∷ es) (many_without n line e)
 
-ends_without : (before : List Named) (e : ℕ × Named) → without_lines (ends_before before e) ≡ ends_named before e.1
+pub ends_without : (before : List Named) (e : ℕ × Named) → without_lines (ends_before before e) ≡ ends_named before e.1
 ends_without before e = go (joins_another e.1)
   where
     go : (b : Bool) → without_lines (if b then ends_of before e.0 (target_of e.1) else []) ≡ (if b then replicate (open_of before (target_of e.1)) (end_of (target_of e.1)) else [])
@@ -88,13 +88,13 @@ closed_already thread other (suc k) = one (bytes_eq thread other) (closed_alread
     one true later = later
     one false later = later
 
-ended_one : (thread : List ℕ) (k n : ℕ) → n ≤ k → fold (stepped thread) n (replicate k (end_of thread)) ≡ 0
+pub ended_one : (thread : List ℕ) (k n : ℕ) → n ≤ k → fold (stepped thread) n (replicate k (end_of thread)) ≡ 0
 ended_one thread zero n few = omega (arith, few)
 ended_one thread (suc k) n few =
     ap (λ b. fold (stepped thread) (cond b (n - 1) n) (replicate k (end_of thread))) ((bytes_eq-Decides thread thread).1 refl)
     ∙ ended_one thread k (n - 1) (omega (arith, few))
 
-other_stays : (thread other : List ℕ) (k n : ℕ) → bytes_eq thread other ≡ false → fold (stepped thread) n (replicate k (end_of other)) ≡ n
+pub other_stays : (thread other : List ℕ) (k n : ℕ) → bytes_eq thread other ≡ false → fold (stepped thread) n (replicate k (end_of other)) ≡ n
 other_stays thread other zero n differ = refl
 other_stays thread other (suc k) n differ =
     ap (λ b. fold (stepped thread) (cond b (n - 1) n) (replicate k (end_of other))) differ ∙ other_stays thread other k n differ

@@ -3,13 +3,20 @@ use Rattle.std.specs.Prelude.{Bool, false}
 use Rattle.aero_model.specs.declared.limits.Limits.{Limits}
 use Rattle.aero_model.specs.Exempt.{Listed}
 
--- The limits, and the labels that say which blocks are no transactions
+-- The limits, the labels that say which blocks are no transactions, and whether blocks that are open end: before their thread is joined, and at the end
+-- of the source
 pub record Rules : Type 0 where
   pub limits : Limits
   pub labels : Listed
+  pub end : Bool
 
+-- the rules under which open blocks end there, or don't
+abbrev pub ruled : Limits → Listed → (end : Bool) → Rules
+ruled limits labels end = record { limits = limits; labels = labels; end = end }
+
+-- those under which they don't
 abbrev pub under : Limits → Listed → Rules
-under limits labels = record { limits = limits; labels = labels }
+under limits labels = ruled limits labels false
 
 -- The rules, whether the serial order is asked for, whether what is found is to be explained, and whether the source is read no further once the verdict
 -- is certain

@@ -7,40 +7,50 @@ use crate::limits::Limits;
 use std::alloc::AllocError;
 use std::marker::Model;
 
-/// The limits of a source, the labels of its blocks that are no transactions, whether its serial order is asked for,
-/// where it is serializable, whether what is found of it is to be explained, where it is a violation or has open
-/// blocks, and whether it is read no further once its verdict is certain.
+/// The limits of a source, the labels of its blocks that are no transactions, whether blocks that are open end before their
+/// thread is joined and at the end of the source, whether its serial order is asked for, where it is serializable, whether
+/// what is found of it is to be explained, where it is a violation or has open blocks, and whether it is read no further
+/// once its verdict is certain.
 #[derive(Drop)]
 pub struct Terms {
     limits: Limits,
     except: SharedExcept,
+    end: bool,
     order: bool,
     explain: bool,
     stop: bool,
 }
 
 impl Model for Terms {
-    ghost use Rattle.aero_model.specs.Terms.{Terms as Asked, asking};
+    ghost use Rattle.aero_model.specs.Terms.{Terms as Asked, ruled, on};
 
     ghost Value = { Asked };
 
-    ghost view = { λ t. record (asking t.limits t.except t.order t.explain) { stop = t.stop } };
+    ghost view = { λ t. record (on (ruled t.limits t.except t.end) t.order t.explain) { stop = t.stop } };
 }
 
 impl Terms {
     ghost use Rattle.std.specs.Prelude.{◌≡◌, IfOk, true};
 
-    /// These limits, these labels, and what is asked for. The source is read to its end.
+    /// These limits, these labels, and what is asked for. No block ends but by an end, and the source is read to its end.
     pub fn new(limits: Limits, except: SharedExcept, order: bool, explain: bool) -> Terms
         ensures { result ≡ asking limits except order explain }
     {
         Terms {
             limits,
             except,
+            end: false,
             order,
             explain,
             stop: false,
         }
+    }
+
+    /// From now on blocks that are open end before their thread is joined, and at the end of the source.
+    pub fn ask_to_end(&mut self)
+        ensures { self.new ≡ record self.old { rules = record self.old.rules { end = true } } }
+    {
+        self.end = true;
     }
 
     /// From now on what is found is to be explained.
@@ -64,6 +74,7 @@ impl Terms {
         Ok(Terms {
             limits: self.limits,
             except: self.except.share()?,
+            end: self.end,
             order: self.order,
             explain: self.explain,
             stop: self.stop,
@@ -89,6 +100,13 @@ impl Terms {
         ensures { result.now ≡ self.now.rules.labels }
     {
         &self.except
+    }
+
+    /// Whether blocks that are open end before their thread is joined, and at the end of the source.
+    pub fn end(&self) -> bool
+        ensures { result ≡ self.now.rules.end }
+    {
+        self.end
     }
 
     /// Whether the serial order is asked for.

@@ -65,7 +65,7 @@ pub at_hint : (hint : Option ℕ) (n : ℕ) (names : List (List ℕ)) (name : Li
 at_hint hint n names name is at = subst (λ h. IfSome h (λ k. slice_get names k ≡ Some name)) is at
 
 -- a name that is found has its number
-number_found : (l : Listing) (name : List ℕ) (n : ℕ) → AreDistinct l.names → slice_get l.names n ≡ Some name → n ≡ number_of l.names name
+pub number_found : (l : Listing) (name : List ℕ) (n : ℕ) → AreDistinct l.names → slice_get l.names n ≡ Some name → n ≡ number_of l.names name
 number_found l name n distinct at = distinct n (number_of l.names name) name at (number_of-place l.names name (listed_at l.names name n at))
 
 listed_found : (l : Listing) (name : List ℕ) (n : ℕ) → slice_get l.names n ≡ Some name → is_listed l name ≡ true
@@ -82,7 +82,7 @@ end_or_front (first ∷ names) name x (suc n) at = go (end_or_front names name x
     go (inl here) = inl (ap suc here.0, here.1)
     go (inr there) = inr there
 
-distinct_pushed : (names : List (List ℕ)) (name : List ℕ) → list_any (bytes_eq name) names ≡ false → AreDistinct names → AreDistinct (names ++ name ∷ [])
+pub distinct_pushed : (names : List (List ℕ)) (name : List ℕ) → list_any (bytes_eq name) names ≡ false → AreDistinct names → AreDistinct (names ++ name ∷ [])
 distinct_pushed names name new distinct a b x at_a at_b = go (end_or_front names name x a at_a) (end_or_front names name x b at_b)
   where
     twice : (n : ℕ) → x ≡ name → slice_get names n ≡ Some x → ⊥

@@ -43,7 +43,7 @@ impl Model for Names {
 }
 
 impl Names {
-    ghost use Rattle.std.specs.Prelude.{◌≡◌, ◌↔◌, ◌≤◌, ◌<◌, ◌++◌, ◌∷◌, [], false, length, slice_get, option_copied, IfOk, OnOk, OnErr, IsErrOf, IsTrue};
+    ghost use Rattle.std.specs.Prelude.{◌≡◌, ◌↔◌, ◌≤◌, ◌<◌, ◌++◌, ◌∷◌, [], false, length, slice_get, option_copied, Some, IfSome, IfNone, IfOk, OnOk, OnErr, IsErrOf, IsTrue};
     ghost use Rattle.aero_names.specs.Hash.{hash_of as hash_in};
     ghost use Rattle.aero_names.specs.Listing.{is_listed, IsListing, IsNumbered};
 
@@ -87,7 +87,38 @@ impl Names {
         }
     }
 
+    /// The number of the name with these bytes, or `None` if it isn't in the list. It takes no memory.
+    pub fn find(&self, bytes: &[u8]) -> Option<u32>
+        ensures found { IfSome result (λ number. slice_get self.now.names number ≡ Some bytes.now) }
+        ensures missed { IfNone result (is_listed self.now bytes.now ≡ false) }
+    {
+        let (hash, found) = found_at_head(&self.latest.heads, &self.keys, &self.list, bytes);
+        match found {
+            Some(number) => Some(number),
+            None => self.find_along(bytes, hash),
+        }
+    }
+
     // The same, where the name, whose hash this is, is looked for along all with its mark.
+    fn find_along(&self, name: &[u8], hash: u64) -> Option<u32>
+        requires { hash ≡ hash_in name.now }
+        ensures found { IfSome result (λ number. slice_get self.now.names number ≡ Some name.now) }
+        ensures missed { IfNone result (is_listed self.now name.now ≡ false) }
+    {
+        let mark = self.latest.mark_of(name, hash);
+        find(
+            &self.latest,
+            &self.before,
+            &self.keys,
+            &self.list,
+            name,
+            mark,
+        )
+        .0
+    }
+
+    // The number of the name, whose hash this is, where it is looked for along all with its mark, and the next one where it
+    // is new.
     fn number_along(&mut self, name: &[u8], hash: u64) -> Result<u32, NamesFault>
         requires { hash ≡ hash_in name.now }
         ensures { IsNumbered self.old self.new name.now result }

@@ -40,7 +40,7 @@ greatest =
       most_names = lit≤ tt;
     }
 
-value_of_check : IsValueOf (Check 0 (reading ∷ []) greatest (these []) false false) (Judged (Serializable 1 0))
+value_of_check : IsValueOf (Check 0 (reading ∷ []) greatest (these []) false false false) (Judged (Serializable 1 0))
 value_of_check =
     ∣ (
       record {

@@ -7,18 +7,18 @@ use Rattle.aero_pieces.specs.declared.answer.Value.{Value}
 use Rattle.aero_pieces.specs.declared.answer.Value.TheVariants.{Parsed, Judged, Ordered, Explained, Opened}
 use Rattle.aero_grammar.specs.Reading.{reading_of}
 use Rattle.aero_judge.specs.Finding.{IsTraceFinding}
-use Rattle.aero_model.specs.Terms.{asking}
+use Rattle.aero_model.specs.Terms.{on, ruled}
 
 -- what a block says, or what is found of the trace that the blocks hold
 abbrev pub ValueFits : Question → Value → Type 0
 ValueFits (Parse trace number bytes) (Parsed parsed) = parsed ≡ reading_of bytes
-ValueFits (Check trace parts limits labels order explain) (Judged verdict) = IsTraceFinding parts (asking limits labels order explain) (findings.Judged verdict)
-ValueFits (Check trace parts limits labels order explain) (Ordered verdict steps) =
-    IsTraceFinding parts (asking limits labels order explain) (findings.Ordered verdict steps)
-ValueFits (Check trace parts limits labels order explain) (Explained verdict cycle) =
-    IsTraceFinding parts (asking limits labels order explain) (findings.Explained verdict cycle)
-ValueFits (Check trace parts limits labels order explain) (Opened verdict blocks) =
-    IsTraceFinding parts (asking limits labels order explain) (findings.Opened verdict blocks)
+ValueFits (Check trace parts limits labels end order explain) (Judged verdict) = IsTraceFinding parts (on (ruled limits labels end) order explain) (findings.Judged verdict)
+ValueFits (Check trace parts limits labels end order explain) (Ordered verdict steps) =
+    IsTraceFinding parts (on (ruled limits labels end) order explain) (findings.Ordered verdict steps)
+ValueFits (Check trace parts limits labels end order explain) (Explained verdict cycle) =
+    IsTraceFinding parts (on (ruled limits labels end) order explain) (findings.Explained verdict cycle)
+ValueFits (Check trace parts limits labels end order explain) (Opened verdict blocks) =
+    IsTraceFinding parts (on (ruled limits labels end) order explain) (findings.Opened verdict blocks)
 ValueFits _ _ = ⊥
 
 -- the same as a mere fact: what shows the verdict isn't kept

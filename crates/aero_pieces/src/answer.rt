@@ -5,7 +5,7 @@ ghost use Rattle.aero_model.specs.declared.limits.Limits.{Limits};
 ghost use Rattle.aero_model.specs.Exempt.{Listed};
 ghost use Rattle.aero_grammar.specs.Reading.{Reading};
 ghost use Rattle.aero_judge.specs.Finding.{IsTraceFinding};
-ghost use Rattle.aero_model.specs.Terms.{asking, Terms as Judged};
+ghost use Rattle.aero_model.specs.Terms.{on, ruled, Terms as Judged};
 ghost use Rattle.aero_pieces.specs.Values.{IsValueOf};
 
 use crate::question::Question;
@@ -63,11 +63,13 @@ impl Question {
                 parsed,
                 limits,
                 except,
+                end,
                 order,
                 explain,
                 ..
             } => {
                 let asked = Asked {
+                    end: *end,
                     order: *order,
                     explain: *explain,
                 };
@@ -89,9 +91,10 @@ impl Question {
     }
 }
 
-// What is asked for besides the verdict.
+// Whether blocks that are open end, and what is asked for besides the verdict.
 #[derive(Clone, Copy)]
 struct Asked {
+    end: bool,
     order: bool,
     explain: bool,
 }
@@ -105,21 +108,33 @@ fn check(
     asked: Asked,
 ) -> Result<Value, AllocError>
     ensures { IfOk result (λ value. (trace : ℕ) →
-        IsValueOf (Question.Check trace parts.now limits.now except.now asked.order asked.explain)
-        value) }
+        IsValueOf (Question.Check trace parts.now limits.now except.now asked.end asked.order
+        asked.explain) value) }
 {
-    let terms = Terms::new(*limits, except.share()?, asked.order, asked.explain);
+    let terms = terms_of(limits, except, asked)?;
     let finding = judge_trace(alloc, parts, &terms)?;
     Ok(value_of(finding))
+}
+
+// The terms of the question. An `AllocError` says that the labels have too many holders.
+fn terms_of(limits: &Limits, except: &SharedExcept, asked: Asked) -> Result<Terms, AllocError>
+    ensures { IfOk result (λ terms. terms ≡
+        on (ruled limits.now except.now asked.end) asked.order asked.explain) }
+{
+    let mut terms = Terms::new(*limits, except.share()?, asked.order, asked.explain);
+    if asked.end {
+        terms.ask_to_end();
+    }
+    Ok(terms)
 }
 
 // What is found of a trace, as the value of the question on it.
 fn value_of(finding: Finding) -> Value
     requires { (parts : List Reading) × (terms : Judged) × IsTraceFinding parts terms finding }
     ensures { (trace : ℕ) (parts : List Reading) (limits : Limits) (labels : Listed)
-        (order explain : Bool) →
-        IsTraceFinding parts (asking limits labels order explain) finding →
-        IsValueOf (Question.Check trace parts limits labels order explain) result }
+        (end order explain : Bool) →
+        IsTraceFinding parts (on (ruled limits labels end) order explain) finding →
+        IsValueOf (Question.Check trace parts limits labels end order explain) result }
 {
     match finding {
         Finding::Judged(verdict) => Value::Judged(verdict),

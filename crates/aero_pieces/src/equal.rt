@@ -32,6 +32,7 @@ pub fn same(a: &Question, b: &Question) -> bool
             parsed,
             limits,
             except,
+            end,
             order,
             explain,
         } => match b {
@@ -40,10 +41,12 @@ pub fn same(a: &Question, b: &Question) -> bool
                 parsed: other_parsed,
                 limits: other_limits,
                 except: other_except,
+                end: other_end,
                 order: other_order,
                 explain: other_explain,
             } => {
                 *trace == *other_trace
+                    && *end == *other_end
                     && *order == *other_order
                     && *explain == *other_explain
                     && are_same_limits(limits, other_limits)

@@ -171,6 +171,7 @@ impl Config {
         ensures except { IfOk result (λ made. made.0.terms.rules.labels ≡
             unwrap_or set (listed_by self.except.items self.only.items)) }
         ensures order { IfOk result (λ made. made.0.terms.order ≡ self.order) }
+        ensures end { IfOk result (λ made. made.0.terms.rules.end ≡ false) }
         ensures explain { IfOk result (λ made. made.0.terms.explain ≡ self.explain) }
         ensures stop { IfOk result (λ made. made.0.terms.stop ≡ self.stop) }
         ensures form { IfOk result (λ made. made.0.form ≡ form_on self.terminals self.form) }

@@ -61,6 +61,7 @@ pub(crate) fn trace_question(
         parsed: Parts::new(parts_of(alloc, blocks)?),
         limits: Limits::greatest(),
         except,
+        end: false,
         order,
         explain: false,
     })

@@ -82,6 +82,21 @@ module _ (test : ℕ → Bool) where
         | inr is ↦ sym (ap (λ b. if b then take (length (list (suc n)) - 1) (list (suc n)) else list (suc n)) (reads ∙ is) ∙ (same_at n is).0)
       ]
 
+  -- each number below n passes the test, or it doesn't
+  pub counted_round : (n : ℕ) → count n + length (list n) ≡ n
+  counted_round zero = refl
+  counted_round (suc n) = elim (cases_Bool (test n)) [
+    | inl is ↦
+        let step = more_at n is in
+        let more = length_pushed (list n) (count n) in
+        let longer : length (list (suc n)) ≡ suc (length (list n)) = ap length step.0 ∙ more in
+        omega (arith, counted_round n, step.1, longer)
+    | inr is ↦
+        let step = same_at n is in
+        let same : length (list (suc n)) ≡ length (list n) = ap length step.0 in
+        omega (arith, counted_round n, step.1, same)
+  ]
+
 same_round : (f g : ℕ → Bool) (n : ℕ) → ((k : ℕ) → k < n → f k ≡ g k) → counts_round f n ≡ counts_round g n
 same_round f g zero h = refl
 same_round f g (suc n) h =
@@ -94,6 +109,12 @@ module _ (tables : Tables) (h : List Marked) (s : StandsFor tables h) where
   end_told t =
       ap₂ is_last (s.depth t ∙ judged_depth h t) (s.exempt t)
       ∙ last_told (λ level. is_latest_exempt h t level (length h)) (nest h t (length h))
+
+  -- how many blocks of the thread are open
+  pub open_told : (t : ℕ) → (thread_at tables.threads t).depth + length (around_at tables.exempt t) ≡ nest h t (length h)
+  open_told t =
+      ap₂ (λ d xs. d + length xs) (s.depth t ∙ judged_depth h t) (s.exempt t)
+      ∙ counted_round (λ level. is_latest_exempt h t level (length h)) (nest h t (length h))
 
   told_what : (t : ℕ) (exempt : Bool) (w : What) → judged_told (exempt_told tables.threads tables.exempt t exempt w) w ≡ judged_what h t exempt w
   told_what t exempt (Begin label) = refl

@@ -1,6 +1,6 @@
 //! For each thread the exempt blocks that are open, in a table by number. Past its end the table
 //! says of a thread that it has none.
-ghost use Rattle.std.specs.Prelude.{◌≡◌, ◌==◌, ◌≤◌, ◌<◌, ◌-◌, ◌++◌, ◌∷◌, ◌&&◌, [], ℕ, if◌then◌else◌, length, take, vec_len, slice_index_or, OnOk, OnErr};
+ghost use Rattle.std.specs.Prelude.{◌≡◌, ◌==◌, ◌≤◌, ◌<◌, ◌-◌, ◌^◌, ◌++◌, ◌∷◌, ◌&&◌, [], ℕ, if◌then◌else◌, length, take, vec_len, slice_index_or, OnOk, OnErr};
 ghost use Rattle.aero_shape.specs.States.{around_at};
 ghost use Rattle.aero_shape.specs.Told.{is_last};
 
@@ -29,6 +29,13 @@ impl Around {
         Around {
             depths: Vec::new(alloc),
         }
+    }
+
+    fn len(&self) -> usize
+        ensures same { result ≡ length self.now }
+        ensures fits { result < 2 ^ 63 }
+    {
+        self.depths.len()
     }
 
     fn is_last(&self, depth: u32) -> bool
@@ -63,6 +70,17 @@ pub(crate) fn ends_exempt(table: &[Around], thread: u32, depth: u32) -> bool
     match table.get(thread as usize) {
         Some(around) => around.is_last(depth),
         None => false,
+    }
+}
+
+// How many exempt blocks of the thread are open.
+pub(crate) fn exempt_blocks(table: &[Around], thread: u32) -> usize
+    ensures same { result ≡ length (around_at table.now thread) }
+    ensures fits { result < 2 ^ 63 }
+{
+    match table.get(thread as usize) {
+        Some(around) => around.len(),
+        None => 0,
     }
 }
 

@@ -1,14 +1,14 @@
 //! The list of the events that were admitted, as far as the rules ask of it.
-ghost use Rattle.std.specs.Prelude.{◌≡◌, ◌≢◌, ◌<◌, ◌++◌, Bool, false, List, [], ◌∷◌, OnOk, OnErr, OnSome, IfSome, IfNone};
-ghost use Rattle.aero_model.specs.Exempt.{Marked, read_events};
+ghost use Rattle.std.specs.Prelude.{◌≡◌, ◌≢◌, ◌<◌, ◌++◌, Bool, false, List, [], ◌∷◌, length, OnOk, OnErr, OnSome, IfSome, IfNone};
+ghost use Rattle.aero_model.specs.Exempt.{Marked, read_events, nest};
 
 use crate::admission::Admitted;
-use crate::exempt::{Around, close_exempt};
+use crate::exempt::{Around, close_exempt, exempt_blocks};
 use crate::growth::make_room;
 use crate::judge::judge;
 use crate::notes::{note_lock, note_threads};
 use crate::rules::{access_of, fault_of, kind_of};
-use crate::states::{LockState, ThreadState};
+use crate::states::{IDLE, LockState, ThreadState, state_at};
 use aero_model::{Numbered, ShapeFault};
 use std::alloc::Global;
 use std::marker::Model;
@@ -62,6 +62,15 @@ impl Shape {
         ensures { result ≡ self.now.admitted }
     {
         self.admitted
+    }
+
+    /// How many blocks of the thread with this number are open, exempt ones too: 0 if no event that was admitted names
+    /// it.
+    pub fn open_blocks(&self, thread: u32) -> usize
+        ensures { (h : List Marked) → StandsFor self.now h → result ≡ nest h thread (length h) }
+    {
+        let unexempt = state_at(&self.threads, thread, IDLE).depth;
+        unexempt as usize + exempt_blocks(&self.exempt, thread)
     }
 
     /// Admits the event after those that were admitted, if it is well-formed after them, and says

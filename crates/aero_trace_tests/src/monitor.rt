@@ -79,13 +79,14 @@ fn ends_with<E: Engine>(alloc: Global, monitor: Monitor<E>, wanted: &str) -> boo
 struct Case<'a> {
     limits: &'a Limits,
     except: &'a Except,
+    ends: bool,
     answers: &'a [u8],
     verdict: &'a str,
 }
 
 // Whether the parts are judged so by this engine.
 fn is_judged_so<E: Engine>(alloc: Global, parts: &[Parsed], case: Case<'_>) -> bool {
-    let mut monitor = Monitor::<E>::new(alloc, case.limits, case.except);
+    let mut monitor = Monitor::<E>::ruled(alloc, case.limits, case.except, case.ends);
     let fits = answers_all(&mut monitor, parts, case.except, case.answers);
     ends_with(alloc, monitor, case.verdict) && fits
 }
@@ -95,15 +96,15 @@ fn is_checked_so(alloc: Global, parts: &[Parsed], case: Case<'_>) -> bool {
     says(alloc, verdict, case.verdict)
 }
 
-// Whether they are judged so by both engines, and by a check of them all.
+// Whether they are judged so by both engines, and by a check of them all, in which no block ends but by an end.
 fn are_judged_so(alloc: Global, parts: &[Parsed], case: Case<'_>) -> bool {
     is_judged_so::<Leads>(alloc, parts, case)
         && is_judged_so::<EndingClocks>(alloc, parts, case)
-        && is_checked_so(alloc, parts, case)
+        && (case.ends || is_checked_so(alloc, parts, case))
 }
 
 // The answer to the trace as one part is that to its last line.
-fn is_so(alloc: Global, row: Row) -> Option<bool> {
+fn is_so(alloc: Global, row: Row, ends: bool) -> Option<bool> {
     let (lines, labels, text, answers, verdict) = row;
     let limits = Limits::new(1000, lines, 10, 10)?;
     let except = except_of(alloc, labels)?;
@@ -112,6 +113,7 @@ fn is_so(alloc: Global, row: Row) -> Option<bool> {
     let case = Case {
         limits: &limits,
         except: &except,
+        ends,
         answers: answers.as_bytes(),
         verdict,
     };
@@ -122,9 +124,9 @@ fn is_so(alloc: Global, row: Row) -> Option<bool> {
     Some(are_judged_so(alloc, &cut, case) && are_judged_so(alloc, &whole, at_once))
 }
 
-// The first row that doesn't hold.
-fn first_misjudged(alloc: Global, rows: &[Row]) -> Option<usize> {
-    rows.iter().position(|row| is_so(alloc, *row) != Some(true))
+// The first row that doesn't hold, where blocks that are open end or don't.
+fn first_misjudged(alloc: Global, rows: &[Row], ends: bool) -> Option<usize> {
+    rows.iter().position(|row| is_so(alloc, *row, ends) != Some(true))
 }
 
 static ROWS: [Row; 15] = [
@@ -193,7 +195,78 @@ static ROWS: [Row; 15] = [
 
 #[test]
 fn a_monitor_answers_part_by_part(rt: HostRuntime) {
-    assert_eq!(rt; first_misjudged(rt.alloc(), &ROWS), None);
+    assert_eq!(rt; first_misjudged(rt.alloc(), &ROWS, false), None);
+}
+
+// Where blocks that are open end.
+static ENDED_ROWS: [Row; 9] = [
+    // The end of T1's block closes the cycle of T2's: at the end, on the line after the last, or before a join.
+    (
+        100,
+        "",
+        "T1|begin/T2|begin/T2|w(y)/T1|w(x)/T2|r(x)/T1|r(y)/",
+        "------",
+        "violation 7 T2 2",
+    ),
+    (
+        100,
+        "",
+        "T1|begin/T2|begin/T2|w(y)/T1|w(x)/T2|r(x)/T1|r(y)/T2|join(T1)/T/",
+        "------cc",
+        "violation 7 T2 2",
+    ),
+    // The ends are events, and inner blocks and those that a label leaves out end too.
+    (
+        100,
+        "",
+        "T1|begin/T1|begin/T2|begin/T1|w(x)/",
+        "----",
+        "serializable 7 2",
+    ),
+    (
+        100,
+        "a",
+        "T1|begin(a)/T1|w(x)/",
+        "--",
+        "serializable 3 0",
+    ),
+    // A thread that joins itself ends no block, and one that was joined has none left.
+    (
+        100,
+        "",
+        "T1|begin/T1|join(T1)/",
+        "-c",
+        "ill-formed 2 JoinSelf",
+    ),
+    (
+        100,
+        "",
+        "T1|begin/T1|begin/T2|join(T1)/T1|end/",
+        "---c",
+        "ill-formed 4 ThreadJoined",
+    ),
+    // Nothing ends where a line is malformed, or one is too many.
+    (
+        100,
+        "",
+        "T1|begin/T2|begin/T2|w(y)/T1|w(x)/T2|r(x)/T1|r(y)/T/",
+        "------c",
+        "malformed 7 NoOperation",
+    ),
+    (
+        5,
+        "",
+        "T1|begin/T2|begin/T2|w(y)/T1|w(x)/T2|r(x)/T1|r(y)/",
+        "------",
+        "malformed 6 TooManyLines",
+    ),
+    // Their line doesn't count.
+    (1, "", "T1|begin/", "-", "serializable 2 1"),
+];
+
+#[test]
+fn open_blocks_end_before_joins_and_at_the_end(rt: HostRuntime) {
+    assert_eq!(rt; first_misjudged(rt.alloc(), &ENDED_ROWS, true), None);
 }
 
 // Whether the next part is refused where one was before it, and no verdict is certain then. The answer is whether one

@@ -16,6 +16,7 @@ use Rattle.aero_grammar.specs.Tabled.{name_at, op_of, target_in, named_in, line_
 use Rattle.aero_grammar.specs.Words.{IsName, IsEvent}
 use Rattle.aero_names.proofs.Listings.{number_of-place}
 use Rattle.aero_names.proofs.NewNames.{still_has_name}
+use Rattle.aero_verdict.specs.Ending.{IsWithin, JoinsWithin}
 use Rattle.aero_verdict.specs.Spots.{HasTarget}
 use Rattle.aero_verdict.proofs.KnownLines.{lines_long}
 
@@ -186,3 +187,27 @@ module _ (t : Tables) (labels : List (List ℕ)) where
     target = target_is_name names e.what has;
     has_target = has_its_target e.what;
   }
+
+-- all of them are events with names, and their threads are in the tables
+pub chunk_events : (t : Tables) (labels : List (List ℕ)) (events : List (ℕ × Numbered)) → IsTabled t labels events → AreNames t labels → All (λ e. IsEvent (named_in t labels e.1)) events
+chunk_events t labels events tabled names = λ k d less.
+    let e = get_or events k d in
+    let at = slice_get-get_or events k d less in
+    is_event t labels names e.1 (thread_within t labels events tabled k e at) (target_within t labels events tabled k e at)
+
+joins_within : (t : Tables) (labels : List (List ℕ)) (w : What) → HasTarget t labels w → JoinsWithin (length t.threads) w
+joins_within t labels (Join u) has = has
+joins_within t labels (Read x) has = tt
+joins_within t labels (Write x) has = tt
+joins_within t labels (Acquire l) has = tt
+joins_within t labels (Release l) has = tt
+joins_within t labels (Fork u) has = tt
+joins_within t labels (Begin label) has = tt
+joins_within t labels End has = tt
+joins_within t labels Exempt has = tt
+
+pub chunk_within : (t : Tables) (labels : List (List ℕ)) (events : List (ℕ × Numbered)) → IsTabled t labels events → All (λ e. IsWithin (length t.threads) e.1) events
+chunk_within t labels events tabled = λ k d less.
+    let e = get_or events k d in
+    let at = slice_get-get_or events k d less in
+    (thread_within t labels events tabled k e at, joins_within t labels e.1.what (target_within t labels events tabled k e at))

@@ -4,6 +4,7 @@ use Rattle.std.specs.Prelude.{bytes_eq, slice_get, slice_index_or}
 use Rattle.std.specs.List.{list_any}
 use Rattle.std.proofs.lemmas.Bool.{cases_Bool, cond-true, cond-false, eqb-true, lt-leb}
 use Rattle.std.proofs.lemmas.Option.{slice_get_within, same_Some}
+use Rattle.aero_model.specs.declared.event.Op.TheVariants as op
 use Rattle.aero_model.specs.declared.numbered.What.{What}
 use Rattle.aero_model.specs.declared.numbered.What.TheVariants.{Read, Write, Acquire, Release, Fork, Join, Begin, End, Exempt}
 use Rattle.aero_model.specs.Exempt.{Listed, leaves_out, begins_exempt}
@@ -91,6 +92,18 @@ told_exempt tables block listed exempt (Acquire l) has marked = refl
 told_exempt tables block listed exempt (Release l) has marked = refl
 told_exempt tables block listed exempt (Fork u) has marked = refl
 told_exempt tables block listed exempt (Join u) has marked = refl
+
+-- no end is told as exempt
+pub end_untold : (exempt : Exemptions) (w : What) → op_of w ≡ op.End → is_told_exempt exempt w ≡ false
+end_untold exempt (Begin label) is = absurd (cc)
+end_untold exempt End is = refl
+end_untold exempt Exempt is = refl
+end_untold exempt (Read x) is = refl
+end_untold exempt (Write x) is = refl
+end_untold exempt (Acquire l) is = refl
+end_untold exempt (Release l) is = refl
+end_untold exempt (Fork u) is = refl
+end_untold exempt (Join u) is = refl
 
 -- one label more
 pub told_next : (f : List ℕ → Bool) (names : List (List ℕ)) (n : ℕ) → n < length names → map f (take (suc n) names) ≡ map f (take n names) ++ f (name_at names n) ∷ []

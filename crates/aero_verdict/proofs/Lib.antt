@@ -12,6 +12,9 @@ pub mod Openers
 pub mod Readings
 pub mod Stops
 pub mod ThreadNames
+pub mod Ending
+pub mod Chunks
+pub mod Admitting
 pub mod Parts
 pub mod Feeding
 pub mod OneVerdict

@@ -1,13 +1,14 @@
 -- Events that are admitted one after the other.
-use Rattle.std.proofs.Common.{◌≡◌, ℕ, suc, ◌+◌, ◌<◌, ◌≤◌, nat_le, Bool, List, [], ◌∷◌, ◌++◌, length, take, drop, Option, Some, None, option_map, refl, sym, ◌∙◌, ap, subst, get_or, arith, add-one, length-append}
+use Rattle.std.proofs.Common.{◌≡◌, ℕ, suc, ◌+◌, ◌<◌, ◌≤◌, nat_le, Bool, List, [], ◌∷◌, ◌++◌, length, take, drop, Option, Some, None, option_map, inl, inr, false, refl, sym, ◌∙◌, ap, subst, get_or, arith, add-one, length-append}
 use Rattle.std.specs.Prelude.{slice_get}
 use Rattle.std.proofs.lemmas.Bool.{cond-true, cond-false, le-leb, lt-leb}
 use Rattle.std.proofs.lemmas.List.{append_assoc, take_all}
 use Rattle.std.proofs.lemmas.List.Elements.{filter-append}
 use Rattle.std.proofs.lemmas.Option.{slice_get_read, slice_get_within}
+use Rattle.aero_model.specs.declared.event.Op.TheVariants as op
 use Rattle.aero_model.specs.declared.verdict.ShapeFault.{ShapeFault}
 use Rattle.aero_model.specs.Cycle.{HasTellingCycle}
-use Rattle.aero_model.specs.Exempt.{Listed, is_exempt}
+use Rattle.aero_model.specs.Exempt.{Listed, begins_exempt, is_exempt}
 use Rattle.aero_model.specs.Named.{Named}
 use Rattle.aero_model.specs.Shape.{IsLawful, fault_at}
 use Rattle.aero_grammar.specs.Reading.{after_lines}
@@ -20,6 +21,7 @@ use Rattle.aero_verdict.specs.declared.known.Exemptions.{Exemptions}
 use Rattle.aero_verdict.specs.Known.{AreMarked}
 use Rattle.aero_model.specs.Terms.{Rules}
 use Rattle.aero_verdict.proofs.Steps.{take_pushed, front_and_rest}
+use Rattle.aero_verdict.proofs.ThreadNames.{at_place}
 
 -- after the first i of these events: what was kept of those before them is kept of these too
 pub record Admits {E : Type 0} (words : Words E) (start : Checker E) (block : List (List ℕ)) (flags : Exemptions) (events : List (ℕ × Named)) (before most i : ℕ) (now : Checker E) : Type 0 where
@@ -50,7 +52,7 @@ module _ {E : Type 0} (words : Words E) (start now : Checker E) (block : List (L
       let count = ap length same in
       record { count_is = omega (arith, so_far.count_is, count, length-append (up_to most (take i events)) []); keeps = so_far.keeps }
 
-  module _ (within : item.0 ≤ most) (exempt : Bool) (told_exempt : (labels : Listed) → AreMarked labels block flags → exempt ≡ is_exempt labels item.1) where
+  module _ (within : item.0 ≤ most) (exempt : Bool) (told_exempt : (labels : Listed) → AreMarked labels block flags → exempt ≡ is_exempt labels item.1) (told_end : item.1.op ≡ op.End → exempt ≡ false) where
     counted : up_to most (take (i + 1) events) ≡ up_to most (take i events) ++ item ∷ []
     counted =
         ap (up_to most) front_next
@@ -67,12 +69,12 @@ module _ {E : Type 0} (words : Words E) (start now : Checker E) (block : List (L
     place : ℕ
     place = length (up_to most (take i events))
 
-    at_place : slice_get (up_to most events) place ≡ Some item
+    at_place_is : slice_get (up_to most events) place ≡ Some item
     unfolding place
-    at_place = ap (λ es. slice_get es (length (up_to most (take i events)))) all_counted ∙ slice_get_seam (up_to most (take i events)) item (up_to most (drop (i + 1) events))
+    at_place_is = ap (λ es. slice_get es (length (up_to most (take i events)))) all_counted ∙ slice_get_seam (up_to most (take i events)) item (up_to most (drop (i + 1) events))
 
     place_within : place < length (up_to most events)
-    place_within = slice_get_within (up_to most events) place item at_place
+    place_within = slice_get_within (up_to most events) place item at_place_is
 
     -- the event, on its line of the whole
     abbrev here : ℕ × Named
@@ -81,10 +83,15 @@ module _ {E : Type 0} (words : Words E) (start now : Checker E) (block : List (L
     next_at : (rules : Rules) (all : List (ℕ × Named)) → AreNext words rules start all block flags before (up_to most events) → slice_get all now.shape.admitted ≡ Some here
     unfolding place
     next_at rules all next =
-        ap (slice_get all) so_far.count_is ∙ next.1 place place_within ∙ ap (option_map (after_lines before)) at_place
+        ap (slice_get all) so_far.count_is ∙ next.1 place place_within ∙ ap (option_map (after_lines before)) at_place_is
 
     is_next : (rules : Rules) (all : List (ℕ × Named)) → AreNext words rules start all block flags before (up_to most events) → IsNext words rules now all here exempt
-    is_next rules all next = (so_far.keeps rules all next, next_at rules all next, told_exempt rules.labels next.2)
+    is_next rules all next = (so_far.keeps rules all next, next_at rules all next, elim next.2 [
+      | inl marked ↦ told_exempt rules.labels marked
+      | inr ends ↦
+          let end : item.1.op ≡ op.End = at_place (λ (e : ℕ × Named). e.1.op ≡ op.End) (up_to most events) place item ends at_place_is in
+          told_end end ∙ sym (ap (λ o. begins_exempt rules.labels o item.1.target) end)
+    ])
 
     pub expected : AreExpected words start block flags before (up_to most events) → IsExpected words now here exempt
     expected are = (are.0, are.1, are.2, is_next are.0 are.1 are.3)

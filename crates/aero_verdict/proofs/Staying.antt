@@ -1,5 +1,5 @@
 -- What explains a violation explains it whatever events come after the one that closes the cycle.
-use Rattle.std.proofs.Common.{◌≡◌, ◌↔◌, nat_le, ℕ, zero, suc, ◌<◌, ◌≤◌, ◌==◌, true, List, [], ◌∷◌, ◌++◌, take, drop, map, Option, Some, None, option_map, inl, inr, refl, sym, ◌∙◌, ap, ap₂, subst, arith}
+use Rattle.std.proofs.Common.{◌≡◌, ◌↔◌, nat_le, ℕ, zero, suc, ◌<◌, ◌≤◌, ◌==◌, true, List, [], ◌∷◌, ◌++◌, length, take, drop, map, Option, Some, None, option_map, inl, inr, refl, sym, ◌∙◌, ap, ap₂, subst, arith}
 use Rattle.std.specs.Prelude.{slice_get, All, filter, option_and_then}
 use Rattle.std.specs.List.{AllZip}
 use Rattle.std.specs.Option.{option_or}
@@ -37,10 +37,11 @@ use Rattle.aero_engine.specs.Given.{Given}
 use Rattle.aero_verdict.specs.declared.checker.Checker.{Checker}
 use Rattle.aero_verdict.specs.Explained.{round_places, IsFirstOf, IsEnd, IsExtent, IsCycleStep, IsCycleTransaction, IsExplained, IsCycleOf}
 use Rattle.aero_verdict.specs.Fed.{IsCertain}
-use Rattle.aero_verdict.specs.Parts.{KeepsAt}
+use Rattle.aero_verdict.specs.Parts.{KeepsAt, ClosesEarly}
 use Rattle.aero_verdict.specs.Standing.{names_of, marked_in, AreGiven}
-use Rattle.aero_verdict.specs.Verdict.{counted_events, read_trace, checked_trace, HasName, IsOnLine, IsViolation, IsVerdict}
+use Rattle.aero_verdict.specs.Verdict.{counted_events, own_events, with_ends, read_trace, checked_trace, HasName, IsOnLine, IsViolation, IsVerdict}
 use Rattle.aero_model.specs.Terms.{Rules}
+use Rattle.aero_verdict.proofs.Ending.{so_far, last_ends, counted_is, with_append}
 use Rattle.aero_verdict.proofs.Readings.{begins_with, slice_get_front, none_past}
 use Rattle.aero_verdict.proofs.Rounds.{round_within, enters_within}
 use Rattle.aero_verdict.proofs.Steps.{take_pushed, front_and_rest}
@@ -328,16 +329,22 @@ one_closing trace a b first second = elim (cases_lt a b) [
   ]
 ]
 
--- the events that count of parts come first where more parts follow
-counted_more : (parts rest : List Reading) (rules : Rules) → (more : List (ℕ × Named)) × (counted_events (parts ++ rest) rules ≡ counted_events parts rules ++ more)
+-- the events that count of parts, up to the ends at the end, come first where more parts follow
+counted_more : (parts rest : List Reading) (rules : Rules) → (more : List (ℕ × Named)) × (counted_events (parts ++ rest) rules ≡ so_far parts rules ++ more)
 counted_more parts rest rules =
     let most = rules.limits.lines in
-    let b = begins_with (whole_reading parts) (whole_reading rest) in (
-      filter (λ e. nat_le e.0 most) b.0,
-      ap (λ r. filter (λ e. nat_le e.0 most) r.events) (whole_reading-append parts rest) ∙ ap (filter (λ e. nat_le e.0 most)) b.1 ∙ filter-append (λ e. nat_le e.0 most) (whole_reading parts).events b.0,
+    let b = begins_with (whole_reading parts) (whole_reading rest) in
+    let later = filter (λ e. nat_le e.0 most) b.0 in
+    let own : own_events (parts ++ rest) rules ≡ own_events parts rules ++ later =
+    ap (λ r. filter (λ e. nat_le e.0 most) r.events) (whole_reading-append parts rest) ∙ ap (filter (λ e. nat_le e.0 most)) b.1 ∙ filter-append (λ e. nat_le e.0 most) (whole_reading parts).events b.0 in
+    let tail = with_ends rules (names_of (so_far parts rules)) later in (
+      tail ++ last_ends (parts ++ rest) rules,
+      counted_is (parts ++ rest) rules
+          ∙ ap (λ es. es ++ last_ends (parts ++ rest) rules) (ap (with_ends rules []) own ∙ with_append rules [] (own_events parts rules) later)
+          ∙ append_assoc (so_far parts rules) tail (last_ends (parts ++ rest) rules),
     )
 
-given_named : (rules : Rules) (events : List (ℕ × Named)) (n : ℕ) (gs : List Given) → AreGiven rules events n gs → (i : ℕ) (e : ℕ × Named) → i < n → slice_get events i ≡ Some e → IsEvent e.1
+pub given_named : (rules : Rules) (events : List (ℕ × Named)) (n : ℕ) (gs : List Given) → AreGiven rules events n gs → (i : ℕ) (e : ℕ × Named) → i < n → slice_get events i ≡ Some e → IsEvent e.1
 given_named rules events n gs are i e less at = go (slice_get gs i) refl
   where
     go : (o : Option Given) → slice_get gs i ≡ o → IsEvent e.1
@@ -346,20 +353,21 @@ given_named rules events n gs are i e less at = go (slice_get gs i) refl
 
 module _ {E : Type 0} (keeps : E → List Given → Type 0) (rules : Rules) (fed : List Reading) (checker : Checker E) where
   -- at a violation they begin alike
-  begin_same : (rest : List Reading) (line : ℕ) (thread : List ℕ) (begun : ℕ) → (k : KeepsAt keeps rules fed checker (Violation line thread begun)) → BeginSame fed (fed ++ rest) rules (suc k.0)
-  begin_same rest line thread begun (place, closing, on_line, kept, names) =
+  begin_same : (rest : List Reading) (line : ℕ) (thread : List ℕ) (begun : ℕ) → (k : KeepsAt keeps rules fed checker (Violation line thread begun)) → k.0 < length (so_far fed rules) → BeginSame fed (fed ++ rest) rules (suc k.0)
+  begin_same rest line thread begun (place, closing, on_line, kept, names) early =
       let more = counted_more fed rest rules in
-      let on = was (λ (x : ℕ × Named). x.0) (slice_get (counted_events fed rules) place) line on_line in
-      let less = slice_get_within (counted_events fed rules) place on.value on.here in
       record {
-        at_same = λ i l. sym (ap (λ es. slice_get es i) more.1 ∙ slice_get_front (counted_events fed rules) more.0 i (omega (arith, l, less)));
+        at_same = λ i l.
+            ap (λ es. slice_get es i) (counted_is fed rules) ∙ slice_get_front (so_far fed rules) (last_ends fed rules) i (omega (arith, l, early))
+            ∙ sym (ap (λ es. slice_get es i) more.1 ∙ slice_get_front (so_far fed rules) more.0 i (omega (arith, l, early)));
         named = given_named rules (counted_events fed rules) (suc place) kept.given kept.are_given;
       }
 
   -- a cycle stays whatever comes, and is there before it comes
-  pub cycle_stays : (verdict : Verdict) → KeepsAt keeps rules fed checker verdict → (rest : List Reading) (cycle : Cycle) → IsCycleOf (fed ++ rest) rules verdict cycle ↔ IsCycleOf fed rules verdict cycle
-  cycle_stays (Violation line thread begun) k rest cycle =
-      let same = begin_same rest line thread begun k in
+  pub cycle_stays : (verdict : Verdict) → KeepsAt keeps rules fed checker verdict → ClosesEarly fed rules verdict → (rest : List Reading) (cycle : Cycle) → IsCycleOf (fed ++ rest) rules verdict cycle ↔ IsCycleOf fed rules verdict cycle
+  cycle_stays (Violation line thread begun) k early rest cycle =
+      let before : k.0 < length (so_far fed rules) = let same = one_closing (checked_trace fed rules) k.0 early.0 k.1 early.1 in omega (arith, same, early.2) in
+      let same = begin_same rest line thread begun k before in
       let there : IsClosing (checked_trace (fed ++ rest) rules) k.0 =
       closing_same k.0 (checked_trace fed rules) (checked_trace (fed ++ rest) rules) (agree fed (fed ++ rest) rules (suc k.0) same) k.1 in (
         λ e. explained_same (fed ++ rest) fed rules line thread begun cycle e
@@ -367,10 +375,10 @@ module _ {E : Type 0} (keeps : E → List Given → Type 0) (rules : Rules) (fed
         λ e. explained_same fed (fed ++ rest) rules line thread begun cycle e
             (subst (λ p. BeginSame fed (fed ++ rest) rules (suc p)) (one_closing (checked_trace fed rules) k.0 e.violation.place k.1 e.violation.closing) same),
       )
-  cycle_stays (Serializable events blocks) k rest cycle = (λ e. e, λ e. e)
-  cycle_stays (Pending events blocks pending) k rest cycle = (λ e. e, λ e. e)
-  cycle_stays (Malformed line fault) k rest cycle = (λ e. e, λ e. e)
-  cycle_stays (IllFormed line fault) k rest cycle = (λ e. e, λ e. e)
+  cycle_stays (Serializable events blocks) k early rest cycle = (λ e. e, λ e. e)
+  cycle_stays (Pending events blocks pending) k early rest cycle = (λ e. e, λ e. e)
+  cycle_stays (Malformed line fault) k early rest cycle = (λ e. e, λ e. e)
+  cycle_stays (IllFormed line fault) k early rest cycle = (λ e. e, λ e. e)
 
 -- what is certain of parts is so with more
 pub certain_more : (parts more : List Reading) (rules : Rules) (verdict : Verdict) → IsCertain parts rules verdict → IsCertain (parts ++ more) rules verdict

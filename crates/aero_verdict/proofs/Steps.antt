@@ -267,10 +267,11 @@ module _ {E : Type 0} (words : Words E) (rules : Rules) (events : List (ℕ × N
                   line_of = old.line_of ∙ ap Some (sym told);
                 }
 
-        pub counts_next : (new : Checker E) → new.numbering ≡ numbering → new.shape ≡ shape → new.blocks ≡ counted → Counts rules new events
-        counts_next new same_numbering same_shape same_blocks =
+        pub counts_next : (new : Checker E) → new.ends ≡ checker.ends → new.numbering ≡ numbering → new.shape ≡ shape → new.blocks ≡ counted → Counts rules new events
+        counts_next new same_ends same_numbering same_shape same_blocks =
             let count : new.shape.admitted ≡ suc n = ap (λ (s : states.Tables). s.admitted) same_shape ∙ count_next ∙ add-one n in
             record {
+              ends = same_ends ∙ kept.ends;
               limited = subst (IsLimited rules.limits) (sym same_numbering) (h.within rules.limits kept.limited).0;
               names_are = ap names_in same_numbering ∙ h.names_are ∙ sym tables_next ∙ ap (λ k. tables_of (take k named)) (sym count);
               shape_stands = subst (λ s. shapes.StandsFor s (take new.shape.admitted all)) (sym same_shape) (subst (shapes.StandsFor shape) (sym (take_pushed all n mark mark_at) ∙ ap (λ k. take k all) (sym count)) stands);
@@ -354,19 +355,19 @@ module _ {E : Type 0} (words : Words E) (rules : Rules) (events : List (ℕ × N
       keeps_next : IsEvent e → (engine : E) → ((gs : List Given) → words.keeps checker.engine gs → words.keeps engine (gs ++ given ∷ [])) → KeepsFirst words.keeps rules events (suc n) engine
       keeps_next named engine kept_on = keeps_more rules events words.keeps n checker.engine engine given next.0.engine_keeps (is_given named) kept_on
 
-      pub judged : IsEvent e → (counted : Blocks) → CountsBlock checker.blocks counted admitted m.thread line → (told : Option ℕ) → (new : Checker E) → new.numbering ≡ numbering → new.shape ≡ shape → new.blocks ≡ counted →
+      pub judged : IsEvent e → (counted : Blocks) → CountsBlock checker.blocks counted admitted m.thread line → (told : Option ℕ) → (new : Checker E) → new.ends ≡ checker.ends → new.numbering ≡ numbering → new.shape ≡ shape → new.blocks ≡ counted →
           Tells (words.stands new.engine) (take n trace ++ m ∷ []) (length (take n trace)) told →
           ((gs : List Given) → words.keeps checker.engine gs → words.keeps new.engine (gs ++ given ∷ [])) → Judged words rules new events n told
-      judged named counted counts None new same_numbering same_shape same_blocks tells_new kept_on =
+      judged named counted counts None new same_ends same_numbering same_shape same_blocks tells_new kept_on =
           let count : new.shape.admitted ≡ suc n = ap (λ (s : states.Tables). s.admitted) same_shape ∙ count_next ∙ add-one n in
           record {
-            counts = counts_next counted counts new same_numbering same_shape same_blocks;
+            counts = counts_next counted counts new same_ends same_numbering same_shape same_blocks;
             untold = subst (λ k. ¬ HasTellingCycle trace k) (sym count) (untold_whole tells_new.told);
             engine_stands = subst (words.stands new.engine) (sym taken ∙ ap (λ k. take k trace) (sym count)) (tells_new.stands refl);
             engine_keeps = subst (λ k. KeepsFirst words.keeps rules events k new.engine) (sym count) (keeps_next named new.engine kept_on);
           }
-      judged named counted counts (Some t) new same_numbering same_shape same_blocks tells_new kept_on =
-          (counts_next counted counts new same_numbering same_shape same_blocks, told_whole t tells_new.told, keeps_next named new.engine kept_on)
+      judged named counted counts (Some t) new same_ends same_numbering same_shape same_blocks tells_new kept_on =
+          (counts_next counted counts new same_ends same_numbering same_shape same_blocks, told_whole t tells_new.told, keeps_next named new.engine kept_on)
 
 count_below_most : (test : ℕ → Bool) (n : ℕ) → count_below test n ≤ n
 count_below_most test zero = omega arith

@@ -1,12 +1,13 @@
 -- For which events of a list a `Checker` stands: the first of them, as many as its shape has admitted. `words` are its engine's own, on the events for which that stands and on those that it keeps.
-use Rattle.std.specs.Prelude.{◌≡◌, ◌≢◌, ℕ, suc, ◌+◌, ◌^◌, ◌<◌, nat_le, Bool, true, List, length, filter, map, take, slice_get, option_map, Option, Some, None}
+use Rattle.std.specs.Prelude.{◌≡◌, ◌≢◌, ℕ, suc, ◌+◌, ◌^◌, ◌<◌, ◌⊎◌, nat_le, Bool, true, All, List, length, filter, map, take, slice_get, option_map, Option, Some, None}
 use Rattle.aero_model.specs.declared.numbered.Numbered.{Numbered}
+use Rattle.aero_model.specs.declared.event.Op.TheVariants.{End}
 use Rattle.aero_model.specs.declared.verdict.ShapeFault.{ShapeFault}
 use Rattle.aero_model.specs.declared.verdict.ShapeFault.TheVariants.{Memory}
 use Rattle.aero_model.specs.declared.verdict.Verdict.{Verdict}
 use Rattle.aero_model.specs.declared.verdict.Verdict.TheVariants.{Violation, IllFormed}
 use Rattle.aero_model.specs.Blocks.{Block, opens, blocks, transaction}
-use Rattle.aero_model.specs.Exempt.{Marked, marked_trace, judged_trace, is_exempt, label_of}
+use Rattle.aero_model.specs.Exempt.{Listed, Marked, marked_trace, judged_trace, is_exempt, label_of}
 use Rattle.aero_model.specs.Named.{Named}
 use Rattle.aero_model.specs.Cycle.{HasTellingCycle}
 use Rattle.aero_model.specs.Numbering.{tables_of, trace_of}
@@ -68,8 +69,9 @@ pub record LastBegins (rules : Rules) (events : List (ℕ × Named)) (n t line :
   pub block : transaction (judged_in rules events) place ≡ Block t (blocks (judged_in rules events) t n)
   pub line_of : option_map (λ e. e.0) (slice_get events place) ≡ Some line
 
--- The names, the shape and the blocks are those of the events that were admitted, and none of these is ill-formed.
+-- Blocks end as the rules say. The names, the shape and the blocks are those of the events that were admitted, and none of these is ill-formed.
 pub record Counts {E : Type 0} (rules : Rules) (checker : Checker E) (events : List (ℕ × Named)) : Type 0 where
+  pub ends : checker.ends ≡ rules.end
   pub limited : IsLimited rules.limits checker.numbering
   pub names_are : names_in checker.numbering ≡ tables_of (take checker.shape.admitted (names_of events))
   pub shape_stands : shapes.StandsFor checker.shape (take checker.shape.admitted (marked_in rules events))
@@ -112,10 +114,14 @@ up_to most events = filter (λ e. nat_le e.0 most) events
 abbrev pub GoesOn : List (ℕ × Named) → ℕ → ℕ → List (ℕ × Named) → Type 0
 GoesOn events n before more = (i : ℕ) → i < length more → slice_get events (n + i) ≡ option_map (after_lines before) (slice_get more i)
 
+-- of a block's labels it is told which are exempt, or all of these events are ends
+abbrev pub AreTold : Listed → List (List ℕ) → Exemptions → List (ℕ × Named) → Type 0
+AreTold labels block exempt more = AreMarked labels block exempt ⊎ All (λ e. e.1.op ≡ End) more
+
 -- it stands for events of the list, and these are the events after them, from a block of whose labels it is told which are exempt
 abbrev pub AreNext : {E : Type 0} → Words E → Rules → Checker E → List (ℕ × Named) → List (List ℕ) → Exemptions → ℕ → List (ℕ × Named) → Type 0
 AreNext words rules checker events block exempt before more =
-    StandsFor words rules checker events × GoesOn events checker.shape.admitted before more × AreMarked rules.labels block exempt
+    StandsFor words rules checker events × GoesOn events checker.shape.admitted before more × AreTold rules.labels block exempt more
 
 -- these are the events after them, for some list of fewer than 2^32 events
 abbrev pub AreExpected : {E : Type 0} → Words E → Checker E → List (List ℕ) → Exemptions → ℕ → List (ℕ × Named) → Type 0

@@ -4,7 +4,7 @@ ghost use Rattle.aero_model.specs.Verdicts.{HasOwnFault};
 ghost use Rattle.aero_grammar.specs.Reading.{Reading, fault_within, is_own_fault};
 ghost use Rattle.aero_engine.specs.Given.{words_of};
 ghost use Rattle.aero_verdict.specs.Verdict.{IsVerdict, IsFaultless};
-ghost use Rattle.aero_model.specs.Terms.{Rules, under};
+ghost use Rattle.aero_model.specs.Terms.{Rules, ruled, under};
 ghost use Rattle.aero_verdict.specs.Standing.{CanBeTold, TellsStop};
 ghost use Rattle.aero_verdict.specs.Ordered.{is_faultless};
 ghost use Rattle.aero_verdict.specs.Parts.{IsPartExpected, ComesNext, TellsPart};
@@ -79,13 +79,13 @@ pub(crate) fn check_part<E: Engine>(
     limits: &Limits,
     except: &Except,
 ) -> Result<Option<Verdict>, AllocError>
-    requires { IsPartExpected (words_of E.stands_for E.keeps) (under limits.now except.now) lines
-        checker.old part.now }
+    requires { IsPartExpected (words_of E.stands_for E.keeps)
+        (ruled limits.now except.now checker.old.ends) lines checker.old part.now }
     ensures told { IfOk result (λ told. (parts : List Reading) (k : ℕ) →
-        ComesNext (words_of E.stands_for E.keeps) (under limits.now except.now) parts k lines
-        checker.old part.now →
-        TellsPart (words_of E.stands_for E.keeps) (under limits.now except.now) parts k lines
-        checker.new part.now told) }
+        ComesNext (words_of E.stands_for E.keeps)
+        (ruled limits.now except.now checker.old.ends) parts k lines checker.old part.now →
+        TellsPart (words_of E.stands_for E.keeps)
+        (ruled limits.now except.now checker.old.ends) parts k lines checker.new part.now told) }
     ensures own_fault { IfOk result (λ told. IfSome told HasOwnFault) }
     ensures wrong { IfOk result (λ told. IfSome told (λ verdict. is_faultless verdict ≡ false)) }
 {
@@ -98,7 +98,7 @@ pub(crate) fn check_part<E: Engine>(
         labels: &part.labels,
         exempt: &exempt,
     };
-    if let Err((line, stop)) = checker.admit_all(alloc, chunk, &part.events, lines, most) {
+    if let Some((line, stop)) = checker.admit_part(alloc, chunk, &part.events, lines, most)? {
         let verdict = stopped_at(alloc, checker, line, stop)?;
         return Ok(Some(verdict));
     }
@@ -110,7 +110,7 @@ pub(crate) fn check_part<E: Engine>(
 }
 
 // The verdict where no further event is admitted after the one on this line.
-fn stopped_at<E: Engine>(
+pub(crate) fn stopped_at<E: Engine>(
     alloc: Global,
     checker: &Checker<E>,
     line: u32,

@@ -7,11 +7,13 @@ ghost use Rattle.aero_verdict.specs.declared.checker.Stop.{Stop};
 ghost use Rattle.aero_verdict.specs.Known.{tables_in, HasLabel};
 
 use crate::blocks::Blocks;
-use crate::known::{ChunkNames, Known};
+use crate::ended::{last_ends, open_blocks, with_ends};
+use crate::known::{ChunkNames, Exemptions, Known};
 use crate::numbering::Numbering;
 use aero_engine::Engine;
 use aero_grammar::LineEvent;
 use aero_model::{Limits, Name, Numbered, ShapeFault, What};
+use aero_names::NameList;
 use aero_shape::Shape;
 use std::alloc::{AllocError, Global};
 
@@ -28,6 +30,8 @@ pub(crate) enum Stop {
 /// lock, the engine that judges them, and their outermost blocks.
 #[derive(Drop)]
 pub struct Checker<E: Engine> {
+    // Whether blocks that are open end before their thread is joined, and at the end.
+    ends: bool,
     /// The names of the events.
     pub numbering: Numbering,
     shape: Shape,
@@ -50,26 +54,29 @@ fn label_given<E: Engine>(chunk: ChunkNames<'_>, what: What) -> Option<&[u8]>
 }
 
 impl<E: Engine> Checker<E> {
-    ghost use Rattle.std.specs.Prelude.{◌≡◌, ◌+◌, ◌-◌, ◌≤◌, ◌<◌, ◌^◌, ℕ, List, length, slice_get, All, Some, IsOk, OnOk, OnErr, IfOk, IfErr};
+    ghost use Rattle.std.specs.Prelude.{◌≡◌, ◌↔◌, ◌+◌, ◌-◌, ◌≤◌, ◌<◌, ◌^◌, ℕ, List, length, slice_get, All, false, None, Some, Ok, IsOk, IsTrue, OnOk, OnErr, IfOk, IfErr};
     ghost use Rattle.aero_model.specs.Exempt.{Listed};
     ghost use Rattle.aero_model.specs.Named.{Named};
     ghost use Rattle.aero_model.specs.Names.{most_inline_bytes};
     ghost use Rattle.aero_grammar.specs.Words.{IsName, IsEvent};
     ghost use Rattle.aero_engine.specs.Given.{words_of};
     ghost use Rattle.aero_verdict.specs.Begun.{begin_line};
-    ghost use Rattle.aero_verdict.specs.Standing.{StandsFor, IsNext, IsExpected, Refuses, Judged, up_to, AreNext, AreExpected, StopsIn};
-    ghost use Rattle.aero_grammar.specs.Tabled.{named_in, lines_in};
+    ghost use Rattle.aero_verdict.specs.Standing.{StandsFor, IsNext, IsExpected, Refuses, Judged, names_of, up_to, AreNext, AreExpected, StopsIn};
+    ghost use Rattle.aero_verdict.specs.Ending.{GoesBehind, HasAdmitted, HasEnded, StandsBehind};
+    ghost use Rattle.aero_verdict.specs.Verdict.{with_ends};
+    ghost use Rattle.aero_grammar.specs.Tabled.{named_in, lines_in, IsTabled, AreNames};
     ghost use Rattle.aero_verdict.specs.Known.{tables_in, Knows, is_told_exempt, HasLabel};
-    ghost use Rattle.aero_model.specs.Terms.{Rules, under};
+    ghost use Rattle.aero_model.specs.Terms.{Rules, ruled};
     ghost use Rattle.aero_verdict.specs.Limited.{names_in, IsNamedThread, HasLongName};
 
     // No event was admitted yet.
-    pub(crate) fn new(alloc: Global, limits: &Limits) -> Checker<E>
+    pub(crate) fn new(alloc: Global, limits: &Limits, ends: bool) -> Checker<E>
         ensures none { result.shape.admitted ≡ 0 }
         ensures kept { (labels : Listed) (events : List (ℕ × Named)) →
-            StandsFor (words_of E.stands_for E.keeps) (under limits.now labels) result events }
+            StandsFor (words_of E.stands_for E.keeps) (ruled limits.now labels ends) result events }
     {
         Checker {
+            ends,
             numbering: Numbering::new(alloc, limits),
             shape: Shape::new(alloc),
             engine: E::new(alloc),
@@ -83,6 +90,7 @@ impl<E: Engine> Checker<E> {
         ensures engine { result.1 ≡ self.engine }
     {
         let Checker {
+            ends: _,
             numbering,
             shape: _,
             engine,
@@ -223,5 +231,88 @@ impl<E: Engine> Checker<E> {
             }
         }
         Ok(())
+    }
+
+    // Admits these events as `admit_all` does; if blocks end, with an end before each join of another thread for each block of
+    // that thread that is open, on the join's line. An `AllocError` says that memory was refused, or that there would be 2^32
+    // events with them.
+    pub(crate) fn admit_part(
+        &mut self,
+        alloc: Global,
+        chunk: ChunkNames<'_>,
+        events: &[LineEvent],
+        before: u32,
+        most: u32,
+    ) -> Result<Option<(u32, Stop)>, AllocError>
+        requires next { (rules : Rules) × (front : List (ℕ × Named)) ×
+            GoesBehind (words_of E.stands_for E.keeps) rules self.old front chunk.labels.now
+            chunk.exempt.now (up_to most
+            (lines_in (tables_in chunk) chunk.labels.now events.now)) }
+        requires tabled { IsTabled (tables_in chunk) chunk.labels.now events.now }
+        requires names { AreNames (tables_in chunk) chunk.labels.now }
+        requires lines { before + most < 2 ^ 32 }
+        ensures { IfOk result (λ stopped. (rules : Rules) (front : List (ℕ × Named)) →
+            GoesBehind (words_of E.stands_for E.keeps) rules self.old front
+            chunk.entry.labels.now chunk.entry.exempt.now (up_to most
+            (lines_in (tables_in chunk.entry) chunk.entry.labels.now events.now)) →
+            HasAdmitted (words_of E.stands_for E.keeps) rules self.old self.new
+            chunk.entry.labels.now chunk.entry.exempt.now before (with_ends rules (names_of front)
+            (up_to most (lines_in (tables_in chunk.entry) chunk.entry.labels.now events.now)))
+            stopped) }
+    {
+        if !self.ends {
+            return Ok(self.admit_all(alloc, chunk, events, before, most).err());
+        }
+        let open = open_blocks(alloc, &self.numbering, &self.shape, chunk.threads)?;
+        let ended = with_ends(alloc, open, events, most)?;
+        if !self.has_room(ended.len()) {
+            return Err(AllocError);
+        }
+        Ok(self.admit_all(alloc, chunk, &ended, before, most).err())
+    }
+
+    // If blocks end, admits an end on the line after so many for each block that is open, thread by thread, up to one with
+    // which a cycle closes: that line, and why. An `AllocError` says that memory was refused, or that there would be 2^32
+    // events with them.
+    pub(crate) fn admit_last_ends(
+        &mut self,
+        alloc: Global,
+        before: u32,
+    ) -> Result<Option<(u32, Stop)>, AllocError>
+        requires next { (rules : Rules) × (front : List (ℕ × Named)) ×
+            StandsBehind (words_of E.stands_for E.keeps) rules self.old front }
+        requires lines { before + 1 < 2 ^ 32 }
+        ensures told { IfOk result (λ stopped. (rules : Rules) (front : List (ℕ × Named)) →
+            StandsBehind (words_of E.stands_for E.keeps) rules self.old front →
+            HasEnded (words_of E.stands_for E.keeps) rules self.old self.new before front stopped) }
+        ensures none { self.old.ends ≡ false → result ≡ Ok None }
+    {
+        if !self.ends {
+            return Ok(None);
+        }
+        let (threads, ends) = last_ends(alloc, &self.numbering, &self.shape)?;
+        if !self.has_room(ends.len()) {
+            return Err(AllocError);
+        }
+        let none = NameList::new(alloc);
+        let exempt = Exemptions {
+            labels: Vec::new(alloc),
+            unlabelled: false,
+        };
+        let chunk = ChunkNames {
+            threads: &threads,
+            variables: &none,
+            locks: &none,
+            labels: &none,
+            exempt: &exempt,
+        };
+        Ok(self.admit_all(alloc, chunk, &ends, before, 1).err())
+    }
+
+    // Whether there are fewer than 2^32 events with so many more.
+    fn has_room(&self, more: usize) -> bool
+        ensures { IsTrue result ↔ (self.now.shape.admitted + more < 2 ^ 32) }
+    {
+        more <= (u32::MAX - self.shape.admitted()) as usize
     }
 }

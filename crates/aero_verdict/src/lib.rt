@@ -29,6 +29,8 @@
 //! - `certain` gives that verdict, if there is one: `same`, `certain`.
 //! - `finish` gives the verdict on exactly the parts that were fed: `verdict`, `own_fault`. It refuses only a monitor
 //!   that is spent, as `feed` leaves it where memory was refused: `spent` of both.
+//! - If its rules say so, blocks that are open end: before their thread is joined, on the line of the join, and, if no
+//!   line is malformed, at the end, on the line after the last. Their ends are events that count: `Monitor::ruled`, `rules`.
 //! - `check_trace`, `check_trace_by` and `serial_order` feed their parts to a monitor: `feed_all`.
 //! - There is a serial order exactly if the verdict is `Serializable` or `Pending` and the graph has no cycle. It is
 //!   returned by the lines of first events: `serial_order`, `exact`, `serializable`, `lines`.
@@ -50,6 +52,7 @@ mod actor;
 mod blocks;
 mod check;
 mod checker;
+mod ended;
 mod first_steps;
 mod ghost_parts;
 pub mod in_order;

@@ -48,7 +48,7 @@
 //! let is_certain = monitor.certain().is_some();
 //! let verdict = monitor.finish()?;
 //! ```
-ghost use Rattle.std.specs.Prelude.{◌≡◌, ◌+◌, ◌++◌, ◌∷◌, [], ◌<◌, ◌≤◌, ◌↔◌, ℕ, List, All, true, false, is_some, None, Some, Ok, IsTrue, IfOk, IfSome, OnErr, option_map};
+ghost use Rattle.std.specs.Prelude.{◌≡◌, ◌+◌, ◌++◌, ◌∷◌, [], ◌<◌, ◌≤◌, ◌↔◌, ℕ, Bool, List, All, true, false, is_some, None, Some, Ok, IsTrue, IfOk, IfSome, OnErr, option_map};
 ghost use Rattle.aero_model.specs.Exempt.{Listed};
 ghost use Rattle.aero_grammar.specs.Reading.{Reading, IsReading, whole_reading};
 ghost use Rattle.aero_model.specs.Verdicts.{HasOwnFault};
@@ -58,9 +58,9 @@ ghost use Rattle.aero_verdict.specs.Fed.{IsCertain, IsOpen};
 ghost use Rattle.aero_verdict.specs.Monitored.{FedSo, is_spent, certain_of, TellsFed};
 ghost use Rattle.aero_verdict.specs.Parts.{IsPartExpected};
 ghost use Rattle.aero_verdict.specs.Verdict.{IsVerdict};
-ghost use Rattle.aero_model.specs.Terms.{under};
+ghost use Rattle.aero_model.specs.Terms.{ruled, under};
 
-use crate::check::{check_part, faultless};
+use crate::check::{check_part, faultless, stopped_at};
 use crate::checker::Checker;
 use crate::ghost_parts::GhostParts;
 use aero_engine::Engine;
@@ -90,6 +90,7 @@ enum State {
 pub struct Monitor<E: Engine> {
     pub(crate) alloc: Global,
     limits: Limits,
+    ends: bool,
     checker: Checker<E>,
     // The lines of the parts so far, up to the one that decides. A number that a `u32` can't tell is past every limit.
     lines: u32,
@@ -103,11 +104,11 @@ impl<E: Engine> Model for Monitor<E> {
     ghost Value = { Fed };
 
     ghost use Rattle.aero_engine.specs.Given.{words_of};
-    ghost use Rattle.aero_model.specs.Terms.{under};
+    ghost use Rattle.aero_model.specs.Terms.{ruled};
     ghost use Rattle.aero_verdict.specs.Monitored.{FedSo, is_spent, certain_of};
 
     ghost view = { λ m. record {
-      rules = under m.limits m.fed.labels;
+      rules = ruled m.limits m.fed.labels m.ends;
       parts = m.fed.parts;
       certain = certain_of m.state;
       is_spent = is_spent m.state;
@@ -117,7 +118,7 @@ impl<E: Engine> Model for Monitor<E> {
     ghost use Rattle.aero_grammar.specs.Reading.{IsReading};
     ghost use Rattle.aero_verdict.specs.declared.monitor.State.TheVariants.{Undecided};
 
-    ghost invariant = { λ m. record { so : FedSo (words_of E.stands_for E.keeps) (under m.limits m.fed.labels) m.fed.parts m.lines m.checker m.state; few : m.state ≡ Undecided → m.lines ≤ m.limits.lines + 1; readings : All IsReading m.fed.parts } };
+    ghost invariant = { λ m. record { so : FedSo (words_of E.stands_for E.keeps) (ruled m.limits m.fed.labels m.ends) m.fed.parts m.lines m.checker m.state; few : m.state ≡ Undecided → m.lines ≤ m.limits.lines + 1; readings : All IsReading m.fed.parts } };
 }
 
 impl<E: Engine> Monitor<E> {
@@ -129,10 +130,23 @@ impl<E: Engine> Monitor<E> {
         ensures undecided { result.certain ≡ None }
         ensures fresh { result.is_spent ≡ false }
     {
+        Monitor::ruled(alloc, limits, except, false)
+    }
+
+    /// The same, where blocks that are open end if `ends` is true: before their thread is joined by another one, on the line
+    /// of the join, and, if no line is malformed, at the end of the trace, on the line after the last. Their ends are
+    /// events that count.
+    pub fn ruled(alloc: Global, limits: &Limits, except: &Except, ends: bool) -> Monitor<E>
+        ensures rules { result.rules ≡ ruled limits.now except.now ends }
+        ensures none { result.parts ≡ [] }
+        ensures undecided { result.certain ≡ None }
+        ensures fresh { result.is_spent ≡ false }
+    {
         Monitor {
             alloc,
             limits: *limits,
-            checker: Checker::new(alloc, limits),
+            ends,
+            checker: Checker::new(alloc, limits, ends),
             lines: 0,
             state: State::Undecided,
             fed: GhostParts::none(except),
@@ -204,11 +218,11 @@ impl<E: Engine> Monitor<E> {
     ///
     /// # Errors
     ///
-    /// `AllocError` where memory was refused.
+    /// `AllocError` where memory was refused, or is refused to the ends of blocks that are open.
     pub fn finish(self) -> Result<Verdict, AllocError>
         ensures verdict { IfOk result (IsVerdict self.parts self.rules) }
         ensures own_fault { IfOk result HasOwnFault }
-        ensures spent { OnErr result (self.is_spent ≡ true) }
+        ensures spent { OnErr result (self.rules.end ≡ false → self.is_spent ≡ true) }
     {
         let (verdict, _checker) = self.into_verdict();
         verdict
@@ -225,17 +239,18 @@ impl<E: Engine> Monitor<E> {
             self.parts result.1) }
         ensures readings { All IsReading self.parts }
         ensures few { self.rules.limits.lines ≤ 4000000000 }
-        ensures spent { OnErr result.0 (self.is_spent ≡ true) }
+        ensures spent { OnErr result.0 (self.rules.end ≡ false → self.is_spent ≡ true) }
     {
         let Monitor {
-            alloc: _,
+            alloc,
             limits,
-            checker,
+            ends: _,
+            mut checker,
             lines,
             state,
             fed: _,
         } = self;
-        let verdict = verdict_of(&checker, lines, &limits, state);
+        let verdict = verdict_of(alloc, &mut checker, lines, &limits, state);
         (verdict, checker)
     }
 }
@@ -275,13 +290,13 @@ fn judge_part<E: Engine>(
     limits: &Limits,
     except: &Except,
 ) -> (u32, State)
-    requires { IsPartExpected (words_of E.stands_for E.keeps) (under limits.now except.now) lines
-        checker.old part.now }
+    requires { IsPartExpected (words_of E.stands_for E.keeps)
+        (ruled limits.now except.now checker.old.ends) lines checker.old part.now }
     ensures so { (fed : List Reading) →
-        FedSo (words_of E.stands_for E.keeps) (under limits.now except.now) fed lines checker.old
-        Undecided →
-        FedSo (words_of E.stands_for E.keeps) (under limits.now except.now) (fed ++ part.now ∷ [])
-        result.0 checker.new result.1 }
+        FedSo (words_of E.stands_for E.keeps) (ruled limits.now except.now checker.old.ends) fed
+        lines checker.old Undecided →
+        FedSo (words_of E.stands_for E.keeps) (ruled limits.now except.now checker.old.ends)
+        (fed ++ part.now ∷ []) result.0 checker.new result.1 }
     ensures few { result.1 ≡ Undecided → result.0 ≤ limits.now.lines + 1 }
 {
     match check_part(alloc, checker, part, lines, limits, except) {
@@ -298,36 +313,57 @@ fn judge_part<E: Engine>(
 
 // The verdict after all parts.
 fn verdict_of<E: Engine>(
-    checker: &Checker<E>,
+    alloc: Global,
+    checker: &mut Checker<E>,
     lines: u32,
     limits: &Limits,
     state: State,
 ) -> Result<Verdict, AllocError>
-    ensures tells { (labels : Listed) (fed : List Reading) →
-        FedSo (words_of E.stands_for E.keeps) (under limits.now labels) fed lines checker.now
+    requires { (labels : Listed) × (ends : Bool) × (fed : List Reading) ×
+        FedSo (words_of E.stands_for E.keeps) (ruled limits.now labels ends) fed lines checker.old
+        state }
+    ensures tells { (labels : Listed) (ends : Bool) (fed : List Reading) →
+        FedSo (words_of E.stands_for E.keeps) (ruled limits.now labels ends) fed lines checker.old
         state →
-        IfOk result (TellsFed (words_of E.stands_for E.keeps) (under limits.now labels) fed
-        checker.now) }
-    ensures spent { OnErr result (is_spent state ≡ true) }
+        IfOk result (TellsFed (words_of E.stands_for E.keeps) (ruled limits.now labels ends) fed
+        checker.new) }
+    ensures spent { (labels : Listed) (ends : Bool) (fed : List Reading) →
+        FedSo (words_of E.stands_for E.keeps) (ruled limits.now labels ends) fed lines checker.old
+        state → OnErr result (ends ≡ false → is_spent state ≡ true) }
 {
     match state {
-        State::Undecided => Ok(at_end(checker, lines, limits)),
+        State::Undecided => at_end(alloc, checker, lines, limits),
         State::Decided(verdict) => Ok(verdict),
         State::Spent => Err(AllocError),
     }
 }
 
-// The verdict after all parts, where nothing was wrong with any.
-fn at_end<E: Engine>(checker: &Checker<E>, lines: u32, limits: &Limits) -> Verdict
-    ensures { (labels : Listed) (fed : List Reading) →
-        FedSo (words_of E.stands_for E.keeps) (under limits.now labels) fed lines checker.now
-        Undecided → TellsFed (words_of E.stands_for E.keeps) (under limits.now labels) fed
-        checker.now result }
+// The verdict after all parts, where nothing was wrong with any. An `AllocError` says that memory was refused to the ends of
+// blocks.
+fn at_end<E: Engine>(
+    alloc: Global,
+    checker: &mut Checker<E>,
+    lines: u32,
+    limits: &Limits,
+) -> Result<Verdict, AllocError>
+    requires { (labels : Listed) × (ends : Bool) × (fed : List Reading) ×
+        FedSo (words_of E.stands_for E.keeps) (ruled limits.now labels ends) fed lines checker.old
+        Undecided }
+    ensures tells { (labels : Listed) (ends : Bool) (fed : List Reading) →
+        FedSo (words_of E.stands_for E.keeps) (ruled limits.now labels ends) fed lines checker.old
+        Undecided → IfOk result (TellsFed (words_of E.stands_for E.keeps)
+        (ruled limits.now labels ends) fed checker.new) }
+    ensures spent { (labels : Listed) (ends : Bool) (fed : List Reading) →
+        FedSo (words_of E.stands_for E.keeps) (ruled limits.now labels ends) fed lines checker.old
+        Undecided → OnErr result (ends ≡ true) }
 {
     if lines > limits.lines {
-        return too_many_lines(limits);
+        return Ok(too_many_lines(limits));
     }
-    faultless(checker)
+    match checker.admit_last_ends(alloc, lines)? {
+        Some((line, stop)) => stopped_at(alloc, checker, line, stop),
+        None => Ok(faultless(checker)),
+    }
 }
 
 // The verdict where there is a line too many, and nothing else is wrong.

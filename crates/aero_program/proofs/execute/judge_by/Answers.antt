@@ -5,7 +5,7 @@ use Rattle.aero_model.specs.CallCounts.{seen_by}
 use Rattle.aero_model.specs.Exempt.{Listed}
 use Rattle.aero_model.specs.declared.verdict.Ending.{Ending}
 use Rattle.std.specs.IoError.{error_kind}
-use Rattle.aero_model.specs.Terms.{asking}
+use Rattle.aero_model.specs.Terms.{ruled}
 use Rattle.aero_telling.specs.Founds.{sighted, whose}
 use Rattle.aero_telling.proofs.Tellings.{summed}
 use Rattle.aero_intake.specs.PlanTerms.{terms_of}
@@ -98,7 +98,7 @@ returns g c =
     (shown_by g.O.Write.contents c.flush-flushed.new.self)
     report.told.endings.items report.told.notables.items report.told.counts cause (fault_of error_kind c.flush-flushed.result) c.end_checked-end.result _ _ c.finish.result terms form
     c.requires
-    (λ i. record (asking c.in-Ok.plan.terms.rules.limits (c.in-Ok.ensures.except i) (c.in-Ok.ensures.order i) (c.in-Ok.ensures.explain i)) { stop = c.in-Ok.ensures.stop i }) c.in-Ok.ensures.form c.in-Ok.ensures.limits
+    (λ i. record { rules = ruled c.in-Ok.plan.terms.rules.limits (c.in-Ok.ensures.except i) (c.in-Ok.ensures.end i); order = c.in-Ok.ensures.order i; explain = c.in-Ok.ensures.explain i; stop = c.in-Ok.ensures.stop i }) c.in-Ok.ensures.form c.in-Ok.ensures.limits
     named seen
     told.remarks told.are told.shown
     (are_own input_of unused_in sight g.F.Opener.can_fail g.F.Opener.holds words

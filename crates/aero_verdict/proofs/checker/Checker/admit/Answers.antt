@@ -67,7 +67,7 @@ returns-in-Ok-clause-judged g c = λ rules events next.
     let stands = c.in_ok-admitted.ensures.ok _ here.0.counts.shape_stands in
     judged (words_of g.E.Engine.stands_for g.E.Engine.keeps) rules events c.args.self.now c.args.line e c.is_exempt.result has here c.number.new.self c.in_ok-numbered.numbered c.in_ok-numbered.ensures.ok
     c.in_ok-admitted.admitted tells c.admit.new.self stands
-    c.requires.named c.count.new.self (on_ok_here c.count.result _ (sym c.if-is_err.ensures.value) c.count.ensures) c.in-Ok.told _ refl refl refl
+    c.requires.named c.count.new.self (on_ok_here c.count.result _ (sym c.if-is_err.ensures.value) c.count.ensures) c.in-Ok.told _ refl refl refl refl
     (c.in-Ok.ensures.told _ _ (is_judged_as (words_of g.E.Engine.stands_for g.E.Engine.keeps) rules events c.args.self.now c.args.line e c.is_exempt.result has here c.number.new.self c.in_ok-numbered.numbered c.in_ok-numbered.ensures.ok
     c.in_ok-admitted.admitted tells c.admit.new.self stands)
     (comes_after (words_of g.E.Engine.stands_for g.E.Engine.keeps) rules events c.args.self.now c.args.line e c.is_exempt.result has here c.number.new.self c.in_ok-numbered.numbered c.in_ok-numbered.ensures.ok
