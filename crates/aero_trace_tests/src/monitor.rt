@@ -126,7 +126,8 @@ fn is_so(alloc: Global, row: Row, ends: bool) -> Option<bool> {
 
 // The first row that doesn't hold, where blocks that are open end or don't.
 fn first_misjudged(alloc: Global, rows: &[Row], ends: bool) -> Option<usize> {
-    rows.iter().position(|row| is_so(alloc, *row, ends) != Some(true))
+    rows.iter()
+        .position(|row| is_so(alloc, *row, ends) != Some(true))
 }
 
 static ROWS: [Row; 15] = [
@@ -223,13 +224,7 @@ static ENDED_ROWS: [Row; 9] = [
         "----",
         "serializable 7 2",
     ),
-    (
-        100,
-        "a",
-        "T1|begin(a)/T1|w(x)/",
-        "--",
-        "serializable 3 0",
-    ),
+    (100, "a", "T1|begin(a)/T1|w(x)/", "--", "serializable 3 0"),
     // A thread that joins itself ends no block, and one that was joined has none left.
     (
         100,

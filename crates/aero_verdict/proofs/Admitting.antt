@@ -224,7 +224,7 @@ up_to_within most (e ∷ es) = elim (cases_lt most e.0) [
 module _ {E : Type 0} (words : Words E) (rules : Rules) (checker : Checker E) (front : List (ℕ × Named)) (behind : StandsBehind words rules checker front) (on : checker.ends ≡ true) (T : Tables) (L : List (List ℕ)) (events : List (ℕ × Numbered)) (most : ℕ) (tabled : IsTabled T L events)
     (counts : List ℕ) (counts_are : (labels : Listed) (names : List Named) → names_in checker.numbering ≡ tables_of names → shapes.StandsFor checker.shape (marked_trace labels names) → counts ≡ map (open_of names) T.threads)
     (ended : List (ℕ × Numbered)) (named : (tables : Tables) (labels : List (List ℕ)) (before : List Named) → AreDistinct tables.threads → AreOpen before tables.threads counts → All (λ e. IsWithin (length tables.threads) e.1) events →
-        lines_in tables labels ended ≡ ended_after before (up_to most (lines_in tables labels events))) where
+    lines_in tables labels ended ≡ ended_after before (up_to most (lines_in tables labels events))) where
   abbrev own : List (ℕ × Named)
   own = up_to most (lines_in T L events)
 
@@ -251,7 +251,7 @@ ends_none rules front none = ap (λ b. if b then ends_at_end (names_of front) 1 
 module _ {E : Type 0} (words : Words E) (rules : Rules) (checker : Checker E) (front : List (ℕ × Named)) (behind : StandsBehind words rules checker front) where
   module _ (on : checker.ends ≡ true) (threads none : List (List ℕ)) (none_is : none ≡ []) (ends : List (ℕ × Numbered))
       (told : (labels : Listed) (names : List Named) → names_in checker.numbering ≡ tables_of names → shapes.StandsFor checker.shape (marked_trace labels names) →
-          lines_in (record { threads = threads; variables = []; locks = [] }) [] ends ≡ ends_at_end names 1) where
+      lines_in (record { threads = threads; variables = []; locks = [] }) [] ends ≡ ends_at_end names 1) where
     last_told : lines_in (record { threads = threads; variables = none; locks = none }) none ends ≡ ends_behind rules front
     last_told =
         ap (λ ns. lines_in (record { threads = threads; variables = ns; locks = ns }) ns ends) none_is

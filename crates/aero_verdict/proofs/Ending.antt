@@ -139,7 +139,7 @@ so_far parts rules = with_ends rules [] (own_events parts rules)
 abbrev pub last_ends : List Reading → Rules → List (ℕ × Named)
 last_ends parts rules =
     if rules.end then
-      (if is_some (faulty_line parts rules) then [] else ends_at_end (without_lines (so_far parts rules)) (suc (whole_reading parts).lines))
+    (if is_some (faulty_line parts rules) then [] else ends_at_end (without_lines (so_far parts rules)) (suc (whole_reading parts).lines))
     else []
 
 pub counted_is : (parts : List Reading) (rules : Rules) → counted_events parts rules ≡ so_far parts rules ++ last_ends parts rules
@@ -169,7 +169,7 @@ pub counted_same : (rules : Rules) (parts others : List Reading) → whole_readi
 counted_same rules parts others same =
     ap (λ (r : Reading).
     if rules.end then
-      (if is_some (malformed_line rules.limits.lines r) then ended_after [] (events_within rules.limits.lines r) else all_ended (events_within rules.limits.lines r) (suc r.lines))
+    (if is_some (malformed_line rules.limits.lines r) then ended_after [] (events_within rules.limits.lines r) else all_ended (events_within rules.limits.lines r) (suc r.lines))
     else events_within rules.limits.lines r) same
 
 pub counted_faulty : (parts : List Reading) (rules : Rules) → is_some (faulty_line parts rules) ≡ true → counted_events parts rules ≡ so_far parts rules

@@ -86,12 +86,16 @@ module _ {E : Type 0} (words : Words E) (start now : Checker E) (block : List (L
         ap (slice_get all) so_far.count_is ∙ next.1 place place_within ∙ ap (option_map (after_lines before)) at_place_is
 
     is_next : (rules : Rules) (all : List (ℕ × Named)) → AreNext words rules start all block flags before (up_to most events) → IsNext words rules now all here exempt
-    is_next rules all next = (so_far.keeps rules all next, next_at rules all next, elim next.2 [
-      | inl marked ↦ told_exempt rules.labels marked
-      | inr ends ↦
-          let end : item.1.op ≡ op.End = at_place (λ (e : ℕ × Named). e.1.op ≡ op.End) (up_to most events) place item ends at_place_is in
-          told_end end ∙ sym (ap (λ o. begins_exempt rules.labels o item.1.target) end)
-    ])
+    is_next rules all next = (
+      so_far.keeps rules all next,
+      next_at rules all next,
+      elim next.2 [
+        | inl marked ↦ told_exempt rules.labels marked
+        | inr ends ↦
+            let end : item.1.op ≡ op.End = at_place (λ (e : ℕ × Named). e.1.op ≡ op.End) (up_to most events) place item ends at_place_is in
+            told_end end ∙ sym (ap (λ o. begins_exempt rules.labels o item.1.target) end)
+      ],
+    )
 
     pub expected : AreExpected words start block flags before (up_to most events) → IsExpected words now here exempt
     expected are = (are.0, are.1, are.2, is_next are.0 are.1 are.3)

@@ -24,19 +24,19 @@ loop-event-preserved c =
           let told : joined_by item.1 ≡ Some u = sym c.joined_by.ensures ∙ w.in-Some.is in
           let mid_is : mid ≡ w.put.new.counts = ap (λ (v : Vec ℕ Global). v.items) w.counts-is ∙ with_items_is c.loop-event.counts w.put.new.counts (w.put.auto.counts ∙ w.deref_mut.ensures.len) in (
             ap (λ (v : Vec (ℕ × Numbered) Global). v.items) w.ended-is ∙ w.in_ok-push_ends.ensures
-            ∙ ap (λ (k : ℕ). c.loop-event.ended.items ++ replicate k (item.0, an_end u)) (w.blocks_of.ensures ∙ ap (λ (xs : List ℕ). slice_index_or xs u 0) w.deref.ensures.value)
-            ∙ ap (λ (o : Option ℕ). c.loop-event.ended.items ++ ends_for was item.0 o) (sym told),
+                ∙ ap (λ (k : ℕ). c.loop-event.ended.items ++ replicate k (item.0, an_end u)) (w.blocks_of.ensures ∙ ap (λ (xs : List ℕ). slice_index_or xs u 0) w.deref.ensures.value)
+                ∙ ap (λ (o : Option ℕ). c.loop-event.ended.items ++ ends_for was item.0 o) (sym told),
             subst (λ (o : Option ℕ). AreEnded was mid o) (sym told) (λ less n.
-            ap (λ (xs : List ℕ). slice_index_or xs n 0) mid_is
-            ∙ w.put.ensures (subst (λ (xs : List ℕ). u < length xs) (sym w.deref_mut.ensures.value) less) n
-            ∙ ap (λ (xs : List ℕ). if u == n then 0 else slice_index_or xs n 0) w.deref_mut.ensures.value),
+                ap (λ (xs : List ℕ). slice_index_or xs n 0) mid_is
+                ∙ w.put.ensures (subst (λ (xs : List ℕ). u < length xs) (sym w.deref_mut.ensures.value) less) n
+                ∙ ap (λ (xs : List ℕ). if u == n then 0 else slice_index_or xs n 0) w.deref_mut.ensures.value),
             ap (λ (xs : List ℕ). length xs) mid_is ∙ w.put.auto.counts ∙ ap (λ (xs : List ℕ). length xs) w.deref_mut.ensures.value,
           )
       | in_default w ↦
           let none : joined_by item.1 ≡ None = sym c.joined_by.ensures ∙ w.in_default.is in
           let mid_is : mid ≡ was = ap (λ (v : Vec ℕ Global). v.items) w.counts-is in (
             ap (λ (v : Vec (ℕ × Numbered) Global). v.items) w.ended-is ∙ sym (append-nil c.loop-event.ended.items)
-            ∙ ap (λ (o : Option ℕ). c.loop-event.ended.items ++ ends_for was item.0 o) (sym none),
+                ∙ ap (λ (o : Option ℕ). c.loop-event.ended.items ++ ends_for was item.0 o) (sym none),
             subst (λ (o : Option ℕ). AreEnded was mid o) (sym none) (λ n. ap (λ (xs : List ℕ). slice_index_or xs n 0) mid_is),
             ap (λ (xs : List ℕ). length xs) mid_is,
           )
