@@ -112,8 +112,8 @@ def _texts(sheet: Sheet, runs: list[Run], edges: list[tuple[float, float]]) -> l
             out.append(
                 _event(sheet, row, *edges[sheet.threads[row.event.thread]], (row.line, 0) in used, (row.line, 1) in used)
             )
-        elif row.ends:
-            middle = sum(edges[sheet.threads[row.ends.thread]]) / 2
+        for one in [] if row.event else row.ends:
+            middle = sum(edges[sheet.threads[one.thread]]) / 2
             out.append(text_at(middle, row.y + 3, "dim", "end", "middle"))
     return out
 

@@ -50,9 +50,7 @@ def _place_rows(sheet: Sheet) -> float:
 
 
 def _thread(row: Row) -> bytes:
-    one = row.event or row.begins or row.ends
-    assert one is not None
-    return one.thread
+    return (row.event or row.begins or row.ends[0]).thread
 
 
 def _arrows(sheet: Sheet, middles: dict[bytes, float], dot: float) -> list[str]:

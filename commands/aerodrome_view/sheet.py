@@ -22,7 +22,7 @@ class Row:
     line: int
     event: Optional[Event] = None
     begins: Optional[Transaction] = None
-    ends: Optional[Transaction] = None
+    ends: list[Transaction] = field(default_factory=list)
     top: float = 0
     y: float = 0
     bottom: float = 0
@@ -54,7 +54,7 @@ class Sheet:
             if one.is_block:
                 self._row(one.first).begins = one
             if one.end is not None:
-                self._row(one.end).ends = one
+                self._row(one.end).ends.append(one)
         self.rows = dict(sorted(self.rows.items()))
         self.arrows = arrows_of(self.finding.cycle)
 

@@ -62,12 +62,20 @@ def look(finding: Finding, folder: str, context: int = 0) -> Seen:
     except (OSError, ValueError) as why:
         return Seen(why_not=f"it couldn't be read: {getattr(why, 'strerror', None) or why}")
     for line, parts in sorted(told.items()):
-        if finding.is_of_ended and line not in seen.lines and parts[1] == b"end":
+        if finding.is_of_ended and parts[1] == b"end":
             # (it was judged as if it had this line)
-            seen.lines[line] = parts[0] + b"|end"
+            seen.lines.setdefault(line, parts[0] + b"|end")
+            if _joins(seen.lines[line], parts[0]):
+                continue
         if parts_of(seen.lines.get(line, b"")) != parts:
             return Seen(why_not=f"line {line} of the file isn't the event that was judged")
     return seen
+
+
+def _joins(line: bytes, thread: bytes) -> bool:
+    """Whether the line joins the thread, whose blocks ended before that."""
+    parts = parts_of(line)
+    return parts is not None and parts[1:] == (b"join", thread)
 
 
 def _told(finding: Finding) -> dict[int, Parts]:

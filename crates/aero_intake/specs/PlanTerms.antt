@@ -1,5 +1,5 @@
 -- The terms of a plan, and how much is kept by it.
-use Rattle.std.specs.Prelude.{ℕ, ◌+◌, ◌==◌, false, if◌then◌else◌, List, []}
+use Rattle.std.specs.Prelude.{ℕ, ◌+◌, ◌==◌, if◌then◌else◌, List, []}
 use Rattle.aero_intake.specs.declared.plan.Keeping.{Keeping}
 use Rattle.aero_intake.specs.declared.plan.Plan.{Plan}
 use Rattle.aero_report.specs.Options.{Note, Options}
@@ -11,7 +11,7 @@ terms_of plan = plan.terms
 
 -- the same, as the summary of a report tells it, with the labels with which no block begins, and the notes on sources
 abbrev pub options_with : Terms → (unused : List (List ℕ)) → (notes : List Note) → Options
-options_with terms unused notes = record { terms = terms; end = false; unused = unused; notes = notes }
+options_with terms unused notes = record { terms = terms; unused = unused; notes = notes }
 
 -- the same, where no such label and no note is told
 abbrev pub options_in : Terms → Options

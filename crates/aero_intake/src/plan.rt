@@ -110,6 +110,18 @@ impl Plan {
         plan
     }
 
+    /// The same plan, by which blocks that are open end before their thread is joined, and at the end of a source.
+    pub fn ending(self) -> Plan
+        ensures { result ≡ record self { terms = record self.terms {
+          rules = record self.terms.rules
+              { end = true };
+        } } }
+    {
+        let mut plan = self;
+        plan.terms.ask_to_end();
+        plan
+    }
+
     /// The same plan, by which each source is read no further once its verdict is certain. So that this is known early,
     /// nothing is kept of a source: it is judged as it comes.
     pub fn stopping(self) -> Plan
@@ -151,7 +163,6 @@ impl Plan {
     {
         Options {
             terms: &self.terms,
-            end: false,
             unused,
             notes,
         }

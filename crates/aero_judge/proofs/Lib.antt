@@ -13,3 +13,4 @@ pub mod PartOf
 pub mod Together
 pub mod Sweeping
 pub mod Forgetting
+pub mod Hiding

@@ -2,9 +2,10 @@
 ghost use Rattle.std.specs.Prelude.{◌≡◌, ◌≤◌, ◌^◌, ◌++◌, ◌∷◌, [], true, false, length, Some, is_some, option_map, IfOk, IfSome, OnOk, OnErr};
 ghost use Rattle.aero_grammar.specs.Reading.{reading_of};
 ghost use Rattle.aero_model.specs.Terms.{on, to_the_end};
-ghost use Rattle.aero_model.specs.Verdicts.{HasOwnFault};
+ghost use Rattle.aero_model.specs.Verdicts.{HasOwnFault, verdict_of};
 ghost use Rattle.aero_verdict.specs.Explained.{ShowsIfAsked};
 ghost use Rattle.aero_verdict.specs.Fed.{IsCertain, IsOpen, fed_nothing};
+ghost use Rattle.aero_verdict.specs.Laws.{HidesNothing};
 ghost use Rattle.aero_judge.specs.Finding.{HasOwnVerdict, IsTraceFinding};
 ghost use Rattle.aero_judge.specs.Judging.{judging_of, nothing_judged};
 ghost use Rattle.aero_verdict.specs.Verdict.{IsVerdict};
@@ -191,7 +192,8 @@ impl Judge {
         }
     }
 
-    /// What is found of exactly the parts that were fed, as `judge_trace` finds it.
+    /// What is found of exactly the parts that were fed, as `judge_trace` finds it. If blocks that are open end, the verdict
+    /// isn't that some are open, and the trace is serializable only if it is without their ends too.
     ///
     /// # Errors
     ///
@@ -200,6 +202,9 @@ impl Judge {
         ensures finding { IfOk result (IsTraceFinding (judging_of self).parts
             (judging_of self).terms) }
         ensures own_fault { IfOk result HasOwnVerdict }
+        ensures hides_nothing { (judging_of self).terms.rules.end ≡ true → IfOk result
+            (λ finding. IfSome (verdict_of finding) (HidesNothing (judging_of self).parts
+            (judging_of self).terms.rules)) }
     {
         match self {
             Judge::Plain(monitor) => judged(Box::into_inner(monitor)),
@@ -209,7 +214,7 @@ impl Judge {
         }
     }
 
-    /// The verdict alone on exactly the parts that were fed.
+    /// The verdict alone on exactly the parts that were fed, as `finish` has it.
     ///
     /// # Errors
     ///
@@ -218,6 +223,8 @@ impl Judge {
         ensures verdict { IfOk result (IsVerdict (judging_of self).parts
             (judging_of self).terms.rules) }
         ensures own_fault { IfOk result HasOwnFault }
+        ensures hides_nothing { (judging_of self).terms.rules.end ≡ true → IfOk result
+            (HidesNothing (judging_of self).parts (judging_of self).terms.rules) }
     {
         match self {
             Judge::Plain(monitor) => Box::into_inner(monitor).finish(),

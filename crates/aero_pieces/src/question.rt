@@ -90,8 +90,9 @@ pub enum Question {
     },
     /// What is the verdict on it under these limits, where its blocks say this, and those that
     /// begin with one of these labels are no transactions? Where `end` is true, blocks that are open end before their
-    /// thread is joined and at the end. And, where `order` is true and it is serializable, what is the serial order of its transactions? And, where `explain` is true and it is
-    /// a violation, what are the events of a telling cycle that shows it, of as few transactions as may be?
+    /// thread is joined and at the end. And, where `order` is true and it is serializable, what is the serial order of
+    /// its transactions? And, where `explain` is true and it is a violation, what are the events of a telling cycle that
+    /// shows it, of as few transactions as may be?
     Check {
         trace: u64,
         parsed: Parts,

@@ -12,13 +12,14 @@ use Rattle.aero_telling.specs.declared.notable.Notable.{Notable}
 use Rattle.aero_report.specs.declared.form.Form.{Form}
 use Rattle.aero_report.specs.Forms.{summary_line_in}
 use Rattle.aero_telling.specs.Founds.{Sighted, sighted, whose, WasRunTo}
+use Rattle.aero_intake.specs.PlanTerms.{options_with}
 use Rattle.aero_intake.specs.Source.{Sight}
 use Rattle.aero_intake.specs.declared.source.SourceOf.{SourceOf}
 use Rattle.aero_program.specs.declared.command.Config.{Config}
 use Rattle.aero_program.specs.declared.failure.Failure.{Failure}
 use Rattle.aero_program.specs.declared.input.Input.{Input}
 use Rattle.aero_program.specs.declared.stamp.Stamp.{Stamp}
-use Rattle.aero_program.specs.Executed.{Ends, IsLeftBy, WasJudged, options_told, terms_asked, unused_of}
+use Rattle.aero_program.specs.Executed.{Ends, IsLeftBy, WasJudged, terms_asked, unused_of}
 use Rattle.aero_program.specs.Command.{AreLimitsFor, are_words, form_on}
 use Rattle.aero_program.specs.LabelFiles.{AreListed}
 use Rattle.aero_program.specs.Notes.{AreOwn, AreShown, Remark, label_lines, note_texts, noted_of_all, notes_on}
@@ -57,7 +58,7 @@ pub judged : {R S O F : Type 0} (input : R → Input S O F) (missing : R → Lis
     → (remarks : List Remark) → map (λ r. r.noted) remarks ≡ noted_of_all input missing (are_words config.files) new (if config.long then [] else endings) notables → AreShown holds remarks
     → AreOwn can_fail holds (map (sighted sight) new) (noted_of_all input missing (are_words config.files) new (if config.long then [] else endings) notables)
     → IsLeftBy config.files given (map (sighted sight) new) left
-    → WasRunTo terms made (summary_line_in made (options_told config terms (unused_of listed None endings (noted_of_all input missing (are_words config.files) new (if config.long then [] else endings) notables)) (notes_on remarks))) were (map (sighted sight) new) before.writer between.writer endings notables counts cause
+    → WasRunTo terms made (summary_line_in made (options_with terms (unused_of listed None endings (noted_of_all input missing (are_words config.files) new (if config.long then [] else endings) notables)) (notes_on remarks))) were (map (sighted sight) new) before.writer between.writer endings notables counts cause
     → between.unflushed ≡ before.unflushed → WasFlushed between after fault → end ≡ end_checked config.fail_unchecked notables (end_of_run config.fail_open cause counts fault)
     → Ends (note_texts config.terminals.errors (notes_on remarks) ++ label_lines config.terminals.errors (unused_of listed cause endings (noted_of_all input missing (are_words config.files) new (if config.long then [] else endings) notables))) end told told_after status
     → WasJudged paths can_fail holds config given left before after told told_after status
@@ -70,10 +71,10 @@ judged input missing sight paths can_fail holds config listed given left limits 
     let form : Form = form_on config.terminals config.form in
     let noted_endings : List (ℕ × Ending) = if config.long then [] else endings in
     let unused : List (List ℕ) = unused_of listed None endings (noted_of_all input missing words new noted_endings notables) in
-    let ran : WasRunTo wanted form (summary_line_in form (options_told config wanted unused (notes_on remarks))) sightings (map (sighted sight) new) before.writer between.writer endings notables counts cause =
-    subst (λ r. WasRunTo r form (summary_line_in form (options_told config r unused (notes_on remarks))) sightings (map (sighted sight) new) before.writer between.writer endings notables counts cause) on_terms
-    (subst (λ (f : Form). WasRunTo terms f (summary_line_in f (options_told config terms unused (notes_on remarks))) sightings (map (sighted sight) new) before.writer between.writer endings notables counts cause) in_form
-    (subst (λ old. WasRunTo terms made (summary_line_in made (options_told config terms unused (notes_on remarks))) old (map (sighted sight) new) before.writer between.writer endings notables counts cause) seen run)) in
+    let ran : WasRunTo wanted form (summary_line_in form (options_with wanted unused (notes_on remarks))) sightings (map (sighted sight) new) before.writer between.writer endings notables counts cause =
+    subst (λ r. WasRunTo r form (summary_line_in form (options_with r unused (notes_on remarks))) sightings (map (sighted sight) new) before.writer between.writer endings notables counts cause) on_terms
+    (subst (λ (f : Form). WasRunTo terms f (summary_line_in f (options_with terms unused (notes_on remarks))) sightings (map (sighted sight) new) before.writer between.writer endings notables counts cause) in_form
+    (subst (λ old. WasRunTo terms made (summary_line_in made (options_with terms unused (notes_on remarks))) old (map (sighted sight) new) before.writer between.writer endings notables counts cause) seen run)) in
     record {
       listed = listed;
       are_listed = are_listed;

@@ -1,4 +1,3 @@
-mod Closed
 mod Executing
 mod Faulting
 mod Fronts

@@ -17,8 +17,6 @@ use Rattle.aero_program.specs.contracts.stamp.Stamp as Stamp
 use Rattle.aero_program.specs.contracts.input.Stage as Stage
 use Rattle.aero_program.specs.contracts.input.Input as Input
 use Rattle.aero_program.specs.contracts.traced.Traced as Traced
-use Rattle.aero_program.specs.contracts.closing.Stage as ClosingStage
-use Rattle.aero_program.specs.contracts.closing.Closing as Closing
 
 failings_send : IsSend (Struct (structs.shape Failings.the_type))
 failings_send = search (sendable, crosses) depth 40
@@ -60,14 +58,3 @@ traced_send S O F s o f send-S send-O send-F = struct_send (structs.shape (Trace
 pub traced_row_send : (S O F : RattleType) (s : _) (o : _) (f : _) → IsSend S → IsSend O → IsSend F → IsSend (Traced.the_row S O F s o f)
 traced_row_send S O F s o f send-S send-O send-F =
     recorded_send (Struct (structs.shape (Traced.the_type S O F s o f))) (Traced.the_type S O F s o f).D (Traced.the_type S O F s o f).to (Traced.the_type S O F s o f).to_one (traced_send S O F s o f send-S send-O send-F)
-
--- A reader with lines behind its text may go to another thread where the reader within may.
-closing_stage_send : IsSend (Enum (enums.shape ClosingStage.the_type))
-closing_stage_send = enum_send (enums.shape ClosingStage.the_type)
-    (tt, ((search (sendable, crosses) depth 60 fits 6000, tt), ((search (sendable, crosses) depth 60 fits 6000, tt), tt)))
-
-closing_send : (R : RattleType) → IsSend R → IsSend (Struct (structs.shape (Closing.the_type R)))
-closing_send R send = struct_send (structs.shape (Closing.the_type R)) (send, (closing_stage_send, (search (sendable, crosses) depth 40, tt)))
-
-pub closing_row_send : (R : RattleType) → IsSend R → IsSend (Closing.the_row R)
-closing_row_send R send = recorded_send (Struct (structs.shape (Closing.the_type R))) (Closing.the_type R).D (Closing.the_type R).to (Closing.the_type R).to_one (closing_send R send)

@@ -6,13 +6,7 @@ use Rattle.aero_telling.specs.Founds.{sighted}
 use Rattle.aero_intake.specs.Source.{Sight}
 use Rattle.aero_intake.specs.declared.source.SourceOf.{SourceOf}
 use Rattle.aero_program.specs.declared.stamp.Stamp.{Stamp}
-use Rattle.aero_program.specs.Closings.{HoldsClosed, known_closed}
 use Rattle.aero_program.specs.Sizes.{AreSizes, MayBear, name_and_reader}
-
--- a file with the lines that end its blocks bears the stamp of the file within
-pub borne_closed : (holds : List ℕ → Stamp → Option (List ℕ) → Type 0) (path : List ℕ) (found : Option Stamp) → IfSome found (MayBear holds path) → IfSome found (MayBear (HoldsClosed holds) path)
-borne_closed holds path None borne = tt
-borne_closed holds path (Some stamp) (given, held) = (known_closed given, (given, held, refl))
 
 -- two lists of which f gives the same: so does g of what f gives
 same_by : {A B C : Type 0} (f : A → B) (g : B → C) (xs ys : List A) → map f xs ≡ map f ys → map (λ x. g (f x)) xs ≡ map (λ x. g (f x)) ys

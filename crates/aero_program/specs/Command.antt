@@ -22,12 +22,6 @@ count_named (sources.Standard name) = 0
 count_named (sources.Files words) = vec_len words
 count_named (sources.Listed path) = 0
 
--- whether it is known how many sources there are before any is read
-abbrev pub are_counted : Sources → Bool
-are_counted (sources.Standard name) = true
-are_counted (sources.Files words) = true
-are_counted (sources.Listed path) = false
-
 -- whether they are files that words name
 abbrev pub are_words : Sources → Bool
 are_words (sources.Standard name) = false

@@ -1,5 +1,5 @@
 -- What the program does with what its words ask for: what goes out on standard output and standard error, and the exit status.
-use Rattle.std.specs.Prelude.{◌≡◌, ◌⊎◌, ℕ, Bool, false, if◌then◌else◌, List, [], ◌++◌, codes, map, slice_get, Option, None, Some, Result, Ok, Err, ⊤, string_bytes}
+use Rattle.std.specs.Prelude.{◌≡◌, ◌⊎◌, ℕ, Bool, if◌then◌else◌, List, [], ◌++◌, codes, map, slice_get, Option, None, Some, Result, Ok, Err, string_bytes}
 use Rattle.std.specs.declared.io.ErrorKind.{ErrorKind}
 use Rattle.aero_model.specs.declared.limits.Limits.{Limits}
 use Rattle.aero_model.specs.declared.verdict.Counts.{Counts}
@@ -9,8 +9,7 @@ use Rattle.aero_model.specs.Exempt.{Listed}
 use Rattle.aero_intake.specs.PlanTerms.{options_with}
 use Rattle.aero_intake.specs.Source.{Origin, Sight, Stream, origin_in}
 use Rattle.aero_report.specs.Forms.{summary_line_in}
-use Rattle.aero_report.specs.Options.{Note, Options}
-use Rattle.aero_model.specs.Terms.{Terms, asking}
+use Rattle.aero_model.specs.Terms.{Terms, on, ruled}
 use Rattle.aero_telling.specs.declared.cause.Cause.{Cause}
 use Rattle.aero_telling.specs.declared.notable.Notable.{Notable}
 use Rattle.aero_telling.specs.Founds.{Sighted, Took, WasRunTo}
@@ -29,7 +28,6 @@ use Rattle.aero_program.specs.declared.label_files.Unlabelled.TheVariants as unl
 use Rattle.aero_program.specs.declared.listing.Unlisted.{Unlisted}
 use Rattle.aero_program.specs.declared.listing.Unlisted.TheVariants as unlisted
 use Rattle.aero_program.specs.declared.stamp.Stamp.{Stamp}
-use Rattle.aero_program.specs.Closings.{HoldsClosed, known_closed}
 use Rattle.aero_program.specs.Command.{AreLimitsFor, are_words, form_on, list_path}
 use Rattle.aero_program.specs.Failure.{cut_failure, failure_status, line_of, word_line}
 use Rattle.aero_program.specs.LabelFiles.{AreListed, AreUnlabelled}
@@ -103,11 +101,7 @@ Ends text (Err why) told told_after status =
 
 -- the terms on which the configuration asks for sources to be judged, with the labels that it lists
 abbrev pub terms_asked : Config → Listed → Limits → Terms
-terms_asked config listed limits = record (asking limits listed config.order config.explain) { stop = config.stop }
-
--- how it is told that they were judged so, with these labels with which no block begins, and these notes
-abbrev pub options_told : Config → Terms → (unused : List (List ℕ)) → (notes : List Note) → Options
-options_told config terms unused notes = record (options_with terms unused notes) { end = config.end }
+terms_asked config listed limits = record (on (ruled limits listed config.end) config.order config.explain) { stop = config.stop }
 
 -- of which of the labels that are listed it is told that no block begins with them, after a run that stopped for this cause, or for none
 abbrev pub unused_of : Listed → Option Cause → List (ℕ × Ending) → List Noted → List (List ℕ)
@@ -151,7 +145,7 @@ pub record WasJudged (known : List ℕ → Option (List ℕ)) (can_fail : List �
   pub on_noted : map (λ r. r.noted) remarks ≡ noted
   pub are_shown : AreShown holds remarks
   pub ran : WasRunTo (terms_asked config listed limits) (form_on config.terminals config.form)
-      (summary_line_in (form_on config.terminals config.form) (options_told config (terms_asked config listed limits) (unused_of listed None endings noted) (notes_on remarks)))
+      (summary_line_in (form_on config.terminals config.form) (options_with (terms_asked config listed limits) (unused_of listed None endings noted) (notes_on remarks)))
       (source_sightings known listed.labels config.files given names) sources shown.writer between.writer endings notables counts cause
   pub same : between.unflushed ≡ shown.unflushed
   pub fault : Option ErrorKind
@@ -196,13 +190,3 @@ Judges known can_fail holds config given left shown shown_after told told_after 
 abbrev pub Executes : (known : List ℕ → Option (List ℕ)) → (can_fail : List ℕ → Type 0) → (holds : List ℕ → Stamp → Option (List ℕ) → Type 0) → Result Config Stop → (given : Option (List ℕ)) → (left : Option Seen) → Shown → Shown → Seen → Seen → ℕ → Type 0
 Executes known can_fail holds (Ok config) given left shown shown_after told told_after status = Judges known can_fail holds config given left shown shown_after told told_after status
 Executes known can_fail holds (Err why) given left shown shown_after told told_after status = IsUntouched given left × Stops why shown shown_after told told_after status
-
--- whether the blocks that are open at the end of a source end there
-abbrev pub ends_blocks : Result Config Stop → Bool
-ends_blocks (Ok config) = config.end
-ends_blocks (Err why) = false
-
--- The same where open blocks end: all is as if each text that is read had the lines that end the blocks which are open at its end. Each file may fail then, as memory may be refused for its lines.
-abbrev pub ExecutesClosed : (known : List ℕ → Option (List ℕ)) → (holds : List ℕ → Stamp → Option (List ℕ) → Type 0) → Result Config Stop → (given : Option (List ℕ)) → (left : Option Seen) → Shown → Shown → Seen → Seen → ℕ → Type 0
-ExecutesClosed known holds asked given left shown shown_after told told_after status =
-    Executes (λ path. known_closed (known path)) (λ path. ⊤) (HoldsClosed holds) asked (known_closed given) left shown shown_after told told_after status

@@ -1,10 +1,9 @@
 -- To be believed: Executed (what goes out, and the exit status), with Failure, Status, Streams, Faults, Notes and Looks. Also
 -- Command (the limits and the line on progress), Crews (how many workers there are), Inputs (files and standard input), Labels (what an input notes of labels), LabelFiles (labels in files), Led (what it has noted since it was made), Laws (what is told of files whose bytes are known), Sightings and Listing (the names of
--- the sources), Arguments (the words), Retries and Calls (calls that were interrupted), Starts, Reasons and Sizes, Closings (readers that end open blocks). Nothing here serves proofs alone.
+-- the sources), Arguments (the words), Retries and Calls (calls that were interrupted), Starts, Reasons and Sizes. Nothing here serves proofs alone.
 pub mod Executed
 pub mod Arguments
 pub mod Calls
-pub mod Closings
 pub mod Command
 pub mod Crews
 pub mod Failure
@@ -14,7 +13,6 @@ pub mod LabelFiles
 pub mod Labels
 pub mod Laws
 pub mod Led
-pub mod Lefts
 pub mod Listing
 pub mod Looks
 pub mod Notes

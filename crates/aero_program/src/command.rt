@@ -1,6 +1,6 @@
 //! What a command line asks for, or why nothing is judged.
-ghost use Rattle.std.specs.Prelude.{◌≡◌, ◌<◌, ◌≤◌, ◌^◌, ◌&&◌, ◌||◌, false, IfOk, length, map, nat_lt, not, string_bytes, unwrap_or, vec_len};
-ghost use Rattle.aero_program.specs.Command.{AreLimitsFor, are_counted, are_words, count_named, files_named, form_on, list_path, listed_by, shown_after};
+ghost use Rattle.std.specs.Prelude.{◌≡◌, ◌<◌, ◌≤◌, ◌^◌, ◌&&◌, ◌||◌, false, IfOk, length, map, nat_lt, string_bytes, unwrap_or, vec_len};
+ghost use Rattle.aero_program.specs.Command.{AreLimitsFor, are_words, count_named, files_named, form_on, list_path, listed_by, shown_after};
 
 use crate::arguments::Unread;
 use aero_batch::plan::Plan;
@@ -21,10 +21,9 @@ const LONG_RUN: u64 = 2_000;
 /// it names 65,536 files at most, and at most 64 labels of blocks that are no transactions or, in their
 /// place, of the only blocks that are, both in the order of the words, at most 64 files with more of these labels,
 /// whether the serial order is asked for, whether violations are to be explained, whether long sources are to be judged,
-/// whether a source is read no further once its verdict is certain, whether the blocks that are open at the end of a source end
-/// there, the form of the report, and when the line on progress is shown.
-/// The serial orders of long sources aren't to be had: each source is kept for its order. Nor is a list of files whose blocks end:
-/// the list would get the lines too.
+/// whether a source is read no further once its verdict is certain, whether blocks that are open end before their thread is
+/// joined and at the end of a source, the form of the report, and when the line on progress is shown.
+/// The serial orders of long sources aren't to be had: each source is kept for its order.
 #[derive(Drop)]
 pub struct Config {
     pub workers: u32,
@@ -41,7 +40,7 @@ pub struct Config {
     pub long: bool,
     /// Whether a source is read no further once its verdict is certain.
     pub stop: bool,
-    /// Whether the blocks that are open at the end of a source end there, as if the source had these lines.
+    /// Whether blocks that are open end before their thread is joined, and at the end of a source.
     pub end: bool,
     /// Whether open blocks make the exit status 1, as a violation does.
     pub fail_open: bool,
@@ -64,7 +63,6 @@ pub struct Config {
     ghost one_list: { (nat_lt 0 (vec_len except) && nat_lt 0 (vec_len only)) ≡ false },
     ghost one_list_of_files: { ((nat_lt 0 (vec_len except) || nat_lt 0 (vec_len except_from)) && (nat_lt 0 (vec_len only) || nat_lt 0 (vec_len only_from))) ≡ false },
     ghost no_long_order: { (long && order) ≡ false },
-    ghost no_list_to_end: { (end && not (are_counted files)) ≡ false },
 }
 
 /// Which of the standard streams are terminals. On one, names are shown without control characters.
@@ -95,13 +93,6 @@ impl Sources {
             Sources::Files(words) => words,
             Sources::Standard(_) | Sources::Listed(_) => &[],
         }
-    }
-
-    /// Whether it is known how many there are before any is read.
-    pub fn are_counted(&self) -> bool
-        ensures { result ≡ are_counted self.now }
-    {
-        !matches!(self, Sources::Listed(_))
     }
 
     /// Whether they are files that words name.
@@ -171,7 +162,7 @@ impl Config {
         ensures except { IfOk result (λ made. made.0.terms.rules.labels ≡
             unwrap_or set (listed_by self.except.items self.only.items)) }
         ensures order { IfOk result (λ made. made.0.terms.order ≡ self.order) }
-        ensures end { IfOk result (λ made. made.0.terms.rules.end ≡ false) }
+        ensures end { IfOk result (λ made. made.0.terms.rules.end ≡ self.end) }
         ensures explain { IfOk result (λ made. made.0.terms.explain ≡ self.explain) }
         ensures stop { IfOk result (λ made. made.0.terms.stop ≡ self.stop) }
         ensures form { IfOk result (λ made. made.0.form ≡ form_on self.terminals self.form) }
@@ -187,6 +178,7 @@ impl Config {
             plan
         };
         let plan = if self.stop { plan.stopping() } else { plan };
+        let plan = if self.end { plan.ending() } else { plan };
         let form = form_on(self.terminals, self.form);
         Ok((plan.with_form(form), self.files))
     }

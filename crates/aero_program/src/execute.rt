@@ -4,13 +4,12 @@ ghost use Rattle.aero_model.specs.CallCounts.{Seen, seen_by};
 ghost use Rattle.aero_telling.specs.Founds.{Sighted, sighted, Took, WasTold};
 ghost use Rattle.aero_telling.specs.Telling.{SumsUp};
 ghost use Rattle.aero_intake.specs.PlanTerms.{options_with, terms_of};
-ghost use Rattle.aero_program.specs.Executed.{Executes, ExecutesClosed, Ends, ends_blocks, IsLeftOf, Fails, Helps, Judges, Stops, TellsNoWords, TellsUnlabelled, TellsUnlisted, TellsWord};
+ghost use Rattle.aero_program.specs.Executed.{Executes, Ends, IsLeftOf, Fails, Helps, Judges, Stops, TellsNoWords, TellsUnlabelled, TellsUnlisted, TellsWord};
 ghost use Rattle.aero_program.specs.declared.failure.Failure.TheVariants.{Memory};
 ghost use Rattle.aero_program.specs.declared.listing.Unlisted.TheVariants.{Unread};
 ghost use Rattle.aero_program.specs.Command.{listed_by};
 ghost use Rattle.aero_program.specs.Inputs.{IsUntouched};
 ghost use Rattle.aero_program.specs.LabelFiles.{AreListed};
-ghost use Rattle.aero_program.specs.Lefts.{left_closed_in, left_plain_in};
 ghost use Rattle.aero_program.specs.Notes.{AreNotes, label_lines, note_at, note_text, note_texts, noted_of_all};
 ghost use Rattle.aero_program.specs.Retries.{seen_within, tried_by};
 ghost use Rattle.aero_program.specs.Streams.{IsTold, WasCut, shown_by};
@@ -19,14 +18,12 @@ ghost use Rattle.aero_report.specs.Asked.{note_of};
 ghost use Rattle.aero_report.specs.Forms.{summary_line_in};
 
 use crate::arguments;
-use crate::closing::{Closing, ClosingFiles};
 use crate::command::{Config, Refused, Stop};
 use crate::failure::{Failure, odd_word_line};
 use crate::files::Opener;
 use crate::label_files::{LabelFault, Unlabelled, label_set};
 use crate::labels::{all_read, lines_on, unused_labels};
 use crate::lasting::flush_fault;
-use crate::left::Left;
 use crate::listing::Unlisted;
 use crate::looker::Looker;
 use crate::notes::{line_note, note_texts, notes_of, reason_note};
@@ -63,92 +60,17 @@ pub struct Streams<'a, O: Write, E: Write> {
 }
 
 /// Does what the words ask for, and gives the exit status, and standard input as it left it, unless memory was refused.
-/// If they ask for open blocks to end, each source is judged as if it had the lines that end them.
 ///
 /// Where they ask for traces to be judged, it judges the files, or standard input where there are
-/// none, in which blocks with the labels that they give are no transactions, writes the report, with
-/// the serial orders and the events of cycles where they ask for those, to standard output and
-/// flushes it, and then writes the notes on the sources and on labels, which the summary as JSON has too, to standard
-/// error. Where the files stand in a
+/// none, in which blocks with the labels that they give are no transactions, and in which blocks that are open end where they
+/// ask for that, writes the report, with the serial orders and the events of cycles where they ask for those, to standard
+/// output and flushes it, and then writes the notes on the sources and on labels, which the summary as JSON has too, to
+/// standard error. Where the files stand in a
 /// list that can't be had, it says why, and judges nothing. Help goes to standard
 /// output, which is flushed; why there is nothing to judge, and why the program fails, goes to
 /// standard error. Where standard error takes nothing, the status still tells. A read, a write or a
 /// flush that is interrupted is tried again.
 pub fn execute<
-    S: Read + Drop + Send,
-    F: Opener + Drop + Sync,
-    O: Write,
-    E: Write,
-    T: Threads + Wait + Copy + Send + Sync + 'static,
->(
-    host: Host<T>,
-    asked: Result<Config, Stop>,
-    files: &F,
-    stdin: S,
-    streams: Streams<'_, O, E>,
-) -> (u8, Option<Left<S>>)
-where
-    F::File: Send,
-    ensures plain { ends_blocks asked ≡ false →
-        Executes (F.known files.now) F.can_fail F.holds asked (S.remaining stdin)
-        (left_plain_in S.remaining result.1) (shown_by O.contents streams.entry.output.now)
-        (shown_by O.contents streams.exit.0.now)
-        (seen_by (λ w. E.contents (tried_by w)) streams.entry.errors.now)
-        (seen_by (λ w. E.contents (tried_by w)) streams.exit.1.0.now) result.0 }
-    ensures closed { ends_blocks asked ≡ true →
-        ExecutesClosed (F.known files.now) F.holds asked (S.remaining stdin)
-        (left_closed_in S.remaining result.1) (shown_by O.contents streams.entry.output.now)
-        (shown_by O.contents streams.exit.0.now)
-        (seen_by (λ w. E.contents (tried_by w)) streams.entry.errors.now)
-        (seen_by (λ w. E.contents (tried_by w)) streams.exit.1.0.now) result.0 }
-{
-    if ends_blocks(&asked) {
-        return execute_closed(host, asked, files, stdin, streams);
-    }
-    let (status, left) = execute_over(host, asked, files, stdin, streams);
-    (status, Left::plain(left))
-}
-
-// Whether the blocks that are open at the end of a source end there.
-fn ends_blocks(asked: &Result<Config, Stop>) -> bool
-    ensures { result ≡ ends_blocks asked.now }
-{
-    match asked {
-        Ok(config) => config.end,
-        Err(_) => false,
-    }
-}
-
-// Does what the words ask for, with the lines that end the open blocks of each source.
-fn execute_closed<
-    S: Read + Drop + Send,
-    F: Opener + Drop + Sync,
-    O: Write,
-    E: Write,
-    T: Threads + Wait + Copy + Send + Sync + 'static,
->(
-    host: Host<T>,
-    asked: Result<Config, Stop>,
-    files: &F,
-    stdin: S,
-    streams: Streams<'_, O, E>,
-) -> (u8, Option<Left<S>>)
-where
-    F::File: Send,
-    ensures { ExecutesClosed (F.known files.now) F.holds asked (S.remaining stdin)
-        (left_closed_in S.remaining result.1) (shown_by O.contents streams.entry.output.now)
-        (shown_by O.contents streams.exit.0.now)
-        (seen_by (λ w. E.contents (tried_by w)) streams.entry.errors.now)
-        (seen_by (λ w. E.contents (tried_by w)) streams.exit.1.0.now) result.0 }
-{
-    let closing = ClosingFiles::new(host.alloc, files);
-    let stdin = Closing::new(host.alloc, stdin);
-    let (status, left) = execute_over(host, asked, &closing, stdin, streams);
-    (status, Left::closed(left))
-}
-
-// Does what the words ask for with the sources as they are.
-fn execute_over<
     S: Read + Drop + Send,
     F: Opener + Drop + Sync,
     O: Write,
@@ -269,7 +191,6 @@ where
     let long = config.long;
     let fail_open = config.fail_open;
     let fail_unchecked = config.fail_unchecked;
-    let is_ended = config.end;
     let on_terminal = config.terminals.errors;
     let Ok((plan, asked)) = config.into_plan(alloc, set) else {
         return (fail(Failure::Memory, errors), None);
@@ -296,11 +217,7 @@ where
     let unused = unused_labels(alloc, &sources, labels);
     let looker = Looker::new(alloc, files);
     let notes = all_notes(&looker, &sources, &report, long, asked.are_words());
-    let beside = Asides {
-        end: is_ended,
-        unused,
-        notes,
-    };
+    let beside = Asides { unused, notes };
     let cause = sum_up_with(alloc, &plan, &report, &beside, &mut output.writer);
     let flushed = output.flush();
     let end = end_after(cause, &report.told.counts, &flushed, fail_open);
@@ -341,11 +258,10 @@ fn standard_left<S: Read + Drop, F: Opener + Drop>(
     reader.into_inner().into_standard()
 }
 
-// What is told beside the lines of the sources: whether open blocks ended at the end of a source, the labels with which
-// no block begins, and the notes on the sources. `None` says that memory was refused for them.
+// What is told beside the lines of the sources: the labels with which no block begins, and the notes on the sources. `None`
+// says that memory was refused for them.
 #[derive(Drop)]
 struct Asides<'a> {
-    end: bool,
     unused: Option<Vec<&'a Name>>,
     notes: Option<Vec<Note>>,
 }
@@ -361,9 +277,9 @@ fn sum_up_with<W: Write>(
 ) -> Option<Cause>
     ensures summed { (text : List ℕ) →
         IfSome beside.now.unused (λ names. IfSome beside.now.notes (λ notes.
-        summary_line_in plan.now.form (record
+        summary_line_in plan.now.form
         (options_with (terms_of plan.now) (map (λ label. label.now) names.items)
-        (map note_of notes.items)) { end = beside.now.end }) report.now.told.counts ≡ text))
+        (map note_of notes.items)) report.now.told.counts ≡ text))
         → SumsUp text report.now.cause (seen_by W.contents writer.old)
         (seen_by W.contents writer.new) result }
     ensures known { result ≡ None → IsSome beside.now.unused }
@@ -379,9 +295,7 @@ fn sum_up_with<W: Write>(
         alloc,
         form: plan.form,
     };
-    let options = plan
-        .options_with(names.as_slice(), notes.as_slice())
-        .ending(beside.end);
+    let options = plan.options_with(names.as_slice(), notes.as_slice());
     sum_up(style, options, &report.told.counts, report.cause, writer)
 }
 

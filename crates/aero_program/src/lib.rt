@@ -5,8 +5,7 @@
 //! the sources of `sources_of`, of which each is a `Traced` `Input`, standard input or a file that is opened
 //! at its first read by an `Opener`. What `notes_of` says of them it tells in the summary as JSON, and then on
 //! standard error. The files may be named in a list (`read_list`). A `Failure` has the line and the status where
-//! there is no whole report. If open blocks are to end, it reads by `Closing` and `ClosingFiles`, which give the lines
-//! that end them behind each text.
+//! there is no whole report.
 //!
 //! ```text
 //! let mut output = Output::new(rt.stdout());
@@ -27,9 +26,8 @@
 //! - A plan is what the command line asks for, with its labels. Its limits are the greatest, or those of long sources
 //!   where `Config.long` is set, and a text is one for a terminal where standard output is one: `Config::into_plan`, `limits`,
 //!   `form`, and a clause for each other field.
-//! - A `Config` lies within its ranges, and never has both `long` and `order`, or `end` and a list of files: `no_long_order`,
-//!   `no_list_to_end`. It has as many workers as are asked for, but no more than processors, where these are known, and one at
-//!   least: `Config::within`, `workers`, `alike`.
+//! - A `Config` lies within its ranges, and never has both `long` and `order`: `no_long_order`. It has as many workers as are
+//!   asked for, but no more than processors, where these are known, and one at least: `Config::within`, `workers`, `alike`.
 //! - There is a source for each word, named as it, whose reader stands unopened for that word's file, or for each name
 //!   in a list, or standard input under its name: `sources_of`, `names`, `readers`, `reasons`, `sighted`.
 //! - A list of names is read to its end, or it is said why not, and is cut at each byte 0: `read_list`, `first_name`.
@@ -48,10 +46,8 @@
 //! - Standard input is told as broken exactly where a call of its stream failed, interruptions apart: `execute` gives it back as the run
 //!   left it. Where files are named, or nothing is judged, nothing is read of it. A list that it has is read to its end, and is told as
 //!   unreadable only if a read failed: `sources_of`, `left`, `unlisted_left`; `execute`.
-//! - A closing reader gives the bytes of the reader within, and then the lines that end the blocks which are open there. So do the files of
-//!   `ClosingFiles`: `Closing::new`, `read`; `ClosingFiles`, `known`.
-//! - If open blocks are to end, all is as if each text had these lines, and the summary as JSON says so: `execute`, `closed`. Each file may
-//!   fail then, as memory may be refused for its lines. Standard input is given back within its `Closing`: `Left`.
+//! - If open blocks are to end, the sources are judged on terms that say so, and the summary as JSON tells it: `Config::into_plan`,
+//!   `end`; `execute`, over `terms_asked`.
 //! - An input notes its first three bytes and its first failure: `Input::read`, `start`, `reason`. It notes with which labels
 //!   of its watch no line of the bytes that came begins a block: `Input::read`, `watched`, `seen`; `lacks`.
 //! - Behind the notes on sources those labels are told, in order, that each source lacks, where each was read to its end:
@@ -85,7 +81,6 @@
 #![tactic(auto)]
 
 pub mod arguments;
-pub mod closing;
 pub mod command;
 pub mod crew;
 pub mod execute;
@@ -97,7 +92,6 @@ pub mod label_files;
 pub mod labels;
 mod lasting;
 pub mod laws;
-pub mod left;
 pub mod listing;
 pub mod looker;
 pub mod notes;

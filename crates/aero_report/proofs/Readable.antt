@@ -122,8 +122,8 @@ option_depth : (o : Options) â†’ members_depth (members_of (option_members o)) â
 option_depth o = omega (
   arith,
   labels_depth o.terms.rules.labels.labels,
-  both_depth 3 (stop_members o.terms.stop) (ending_members o.end ++ (unused_members o.unused ++ notes_members o.notes)) (stop_depth o.terms.stop)
-      (both_depth 3 (ending_members o.end) (unused_members o.unused ++ notes_members o.notes) (ending_depth o.end)
+  both_depth 3 (stop_members o.terms.stop) (ending_members o.terms.rules.end ++ (unused_members o.unused ++ notes_members o.notes)) (stop_depth o.terms.stop)
+      (both_depth 3 (ending_members o.terms.rules.end) (unused_members o.unused ++ notes_members o.notes) (ending_depth o.terms.rules.end)
       (both_depth 3 (unused_members o.unused) (notes_members o.notes) (unused_depth o.unused) (notes_depth o.notes))),
 )
 

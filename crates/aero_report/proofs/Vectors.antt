@@ -117,11 +117,15 @@ few = record {
 }
 
 abbrev options : Options
-options = record { terms = asking few (all_but (codes "f" ∷ codes "g" ∷ [])) false true; end = false; unused = []; notes = [] }
+options = record { terms = asking few (all_but (codes "f" ∷ codes "g" ∷ [])) false true; unused = []; notes = [] }
 
 summary_object : summary_line_in Json options (counts_of (Broken 20 ∷ [])) ≡ codes "{\"traces\":1,\"serializable\":0,\"open\":0,\"violations\":0,\"faults\":1,\"version\":\"0.1.0\",\"order\":false,\"explain\":true,\"limits\":{\"bytes\":20,\"lines\":4,\"threads\":3,\"names\":2},\"only\":[\"f\",\"g\"]}" ++ 10 ∷ []
 unfolding digits json_on_literals chars is_utf8
 summary_object = refl
+
+ended_object : summary_line_in Json (record options { terms = record options.terms { rules = record options.terms.rules { end = true } } }) (counts_of (Broken 20 ∷ [])) ≡ codes "{\"traces\":1,\"serializable\":0,\"open\":0,\"violations\":0,\"faults\":1,\"version\":\"0.1.0\",\"order\":false,\"explain\":true,\"limits\":{\"bytes\":20,\"lines\":4,\"threads\":3,\"names\":2},\"only\":[\"f\",\"g\"],\"end\":true}" ++ 10 ∷ []
+unfolding digits json_on_literals chars is_utf8
+ended_object = refl
 
 unused_object : summary_line_in Json (record options { unused = codes "g" ∷ [] }) (counts_of (Broken 20 ∷ [])) ≡ codes "{\"traces\":1,\"serializable\":0,\"open\":0,\"violations\":0,\"faults\":1,\"version\":\"0.1.0\",\"order\":false,\"explain\":true,\"limits\":{\"bytes\":20,\"lines\":4,\"threads\":3,\"names\":2},\"only\":[\"f\",\"g\"],\"unused\":[\"g\"]}" ++ 10 ∷ []
 unfolding digits json_on_literals chars is_utf8

@@ -8,4 +8,4 @@ abbrev pub note_of : declared_note.Note → Note
 note_of n = record { source = n.source.items; line = n.line; text = n.text.items }
 
 abbrev pub options_of : declared.Options → Options
-options_of o = record { terms = o.terms.now; end = o.end; unused = map (λ label. label.now) o.unused.now; notes = map note_of o.notes.now }
+options_of o = record { terms = o.terms.now; unused = map (λ label. label.now) o.unused.now; notes = map note_of o.notes.now }

@@ -170,7 +170,7 @@ abbrev pub stop_members : Bool → List Member
 stop_members true = flag (codes "stop") true ∷ []
 stop_members false = []
 
--- whether the blocks that were open at the end of a source ended there, where that was asked for
+-- whether blocks that were open ended before their thread was joined and at the end of a source, where that was asked for
 abbrev pub ending_members : Bool → List Member
 ending_members true = flag (codes "end") true ∷ []
 ending_members false = []
@@ -183,7 +183,7 @@ option_members options =
     ∷ flag (codes "explain") options.terms.explain
     ∷ (codes "limits", limits_value options.terms.rules.limits)
     ∷ listed_member options.terms.rules.labels
-    ∷ (stop_members options.terms.stop ++ (ending_members options.end ++ (unused_members options.unused ++ notes_members options.notes)))
+    ∷ (stop_members options.terms.stop ++ (ending_members options.terms.rules.end ++ (unused_members options.unused ++ notes_members options.notes)))
 
 -- the data of the summary
 abbrev pub summary_value : Options → Counts → Json

@@ -14,24 +14,13 @@ use std::alloc::{AllocError, Global};
 /// The program's version.
 pub const VERSION: &str = "0.1.0";
 
-/// How the sources of a report were judged, as its summary says it: on which terms, whether the blocks that were open at
-/// the end of a source ended there, with which labels of the list no block begins, and what is noted of the sources beside
-/// their lines.
+/// How the sources of a report were judged, as its summary says it: on which terms, with which labels of the list no
+/// block begins, and what is noted of the sources beside their lines.
 #[derive(Clone, Copy)]
 pub struct Options<'a> {
     pub terms: &'a Terms,
-    pub end: bool,
     pub unused: &'a [&'a Name],
     pub notes: &'a [Note],
-}
-
-impl<'a> Options<'a> {
-    /// The same where the blocks that were open at the end of a source ended there, or didn't.
-    pub fn ending(self, end: bool) -> Options<'a>
-        ensures { options_of result ≡ record (options_of self.entry) { end = end } }
-    {
-        Options { end, ..self }
-    }
 }
 
 /// The line of the summary as JSON, with a newline.
@@ -80,7 +69,7 @@ fn write_options(out: &mut Line, options: Options<'_>) -> Result<(), AllocError>
     write_limits(out, options.terms.limits())?;
     write_listed(out, options.terms.except())?;
     write_stop(out, options.terms.stop())?;
-    write_ending(out, options.end)?;
+    write_ending(out, options.terms.end())?;
     write_unused(out, options.unused)?;
     write_notes(out, options.notes)
 }
@@ -132,7 +121,7 @@ fn write_stop(out: &mut Line, stop: bool) -> Result<(), AllocError>
     Ok(())
 }
 
-// That the blocks which were open at the end of a source ended there, where that was asked for.
+// That blocks which were open ended before their thread was joined and at the end of a source, where that was asked for.
 fn write_ending(out: &mut Line, end: bool) -> Result<(), AllocError>
     ensures { OnOk result (out.new ≡ out.old ++ all_members_tokens (ending_members end)) }
 {

@@ -1,8 +1,8 @@
 -- What is open of a chunk's threads, event by event, and the ends that come before a join.
-use Rattle.std.proofs.Common.{◌≡◌, ◌≢◌, ℕ, zero, suc, ◌+◌, ◌-◌, ◌<◌, ◌≤◌, ◌==◌, ◌⊎◌, nat_le, not, Bool, true, false, cond, if◌then◌else◌, List, [], ◌∷◌, ◌++◌, length, take, map, fold, flat_map, replicate, Option, Some, None, inl, inr, refl, sym, ◌∙◌, ap, ap₂, subst, arith, add-one, append_assoc, append-nil, get_or}
+use Rattle.std.proofs.Common.{◌≡◌, ℕ, zero, suc, ◌+◌, ◌<◌, ◌≤◌, ◌==◌, ◌⊎◌, nat_le, not, Bool, true, false, cond, if◌then◌else◌, List, [], ◌∷◌, ◌++◌, length, take, map, fold, flat_map, replicate, Option, Some, None, inl, inr, refl, sym, ◌∙◌, ap, ap₂, subst, arith, add-one, append_assoc, append-nil, get_or}
 use Rattle.std.specs.Prelude.{bytes_eq, slice_get, slice_index_or, unwrap_or, All}
 use Rattle.std.specs.List.{list_any}
-use Rattle.std.proofs.lemmas.Bool.{cases_Bool, cases_eq, cond-true, cond-false, eq-eqb, ne_eqb, le-leb, lt-leb, true≢false}
+use Rattle.std.proofs.lemmas.Bool.{cases_Bool, cases_eq, cond-true, cond-false, eq-eqb, ne_eqb, le-leb, lt-leb}
 use Rattle.std.proofs.lemmas.List.{map-append, length-map}
 use Rattle.std.proofs.lemmas.List.Elements.{filter-append, All-append, All-cons, All-nil, All-replicate}
 use Rattle.std.proofs.lemmas.List.Sums.{fold-append}
@@ -21,7 +21,6 @@ use Rattle.aero_model.proofs.Exempt.{read_marked}
 use Rattle.aero_model.proofs.NamedDepths.{open_blocks_is, stepped, then_open}
 use Rattle.aero_grammar.specs.Tabled.{line_in, lines_in, name_at, named_in, op_of}
 use Rattle.aero_names.specs.Indexed.{AreDistinct}
-use Rattle.aero_names.specs.Listing.{Listing}
 use Rattle.aero_names.proofs.Listings.{distinct_pushed, number_found}
 use Rattle.aero_shape.specs.States as shapes
 use Rattle.aero_shape.specs.Standing.{StandsFor}

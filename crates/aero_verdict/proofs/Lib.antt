@@ -19,6 +19,7 @@ pub mod Parts
 pub mod Feeding
 pub mod OneVerdict
 pub mod SomeVerdict
+pub mod NoneOpen
 pub mod Faultless
 pub mod OnLines
 pub mod BlockEvents

@@ -3,7 +3,7 @@ use Rattle.std.proofs.Common.{◌≡◌, ℕ, suc, ◌+◌, ◌-◌, ◌<◌, �
 use Rattle.std.specs.Prelude.{slice_get, is_some, All, if◌then◌else◌}
 use Rattle.std.proofs.lemmas.Bool.{cond-true, cond-false, lt-ltb, le-ltb}
 use Rattle.std.proofs.lemmas.List.{append_assoc, append-nil, drop_all, take_all, map-append, length-map}
-use Rattle.std.proofs.lemmas.List.Elements.{filter-append, All-nil, All-append, All-map, All-filter, All-same}
+use Rattle.std.proofs.lemmas.List.Elements.{filter-append, All-nil, All-append, All-map, All-same}
 use Rattle.aero_model.specs.declared.verdict.LineFault.{LineFault}
 use Rattle.aero_model.specs.declared.verdict.LineFault.TheVariants.{TooManyLines}
 use Rattle.aero_model.specs.declared.verdict.Verdict.{Verdict}

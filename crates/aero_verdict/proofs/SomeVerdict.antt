@@ -85,7 +85,7 @@ is_judged_at_end trace n t clocks u = go (cases_eq u t) (cases_lt 0 (depth trace
     go (inr other) (inl deep) (inr taken) (inr given) = inl record { other = other; is_open = deep; taken = taken; given = given }
 
 -- a number above that of each thread
-above : (xs : List Numbered) → (m : ℕ) × ((i : ℕ) (e : Numbered) → slice_get xs i ≡ Some e → e.thread < m)
+pub above : (xs : List Numbered) → (m : ℕ) × ((i : ℕ) (e : Numbered) → slice_get xs i ≡ Some e → e.thread < m)
 above [] = (0, λ i e h. cc)
 above (x ∷ xs) = let b = above xs in (suc (x.thread + b.0), below b)
   where
@@ -176,7 +176,7 @@ module _ (parts : List Reading) (rules : Rules) where
       (item.0.0, ap (option_map (λ (e : ℕ × Named). e.0)) item.1)
 
   -- the thread of an event has a name
-  name_at : (n : ℕ) (e : Numbered) → slice_get trace n ≡ Some e → (name : List ℕ) × (slice_get (tables_of named).threads e.thread ≡ Some name)
+  pub name_at : (n : ℕ) (e : Numbered) → slice_get trace n ≡ Some e → (name : List ℕ) × (slice_get (tables_of named).threads e.thread ≡ Some name)
   name_at n e at =
       let mark = was (judged (take n all)) (slice_get all n) e (sym (judged_at all n) ∙ at) in
       let event = was_at (marked rules.labels (tables_of named)) named n mark.value mark.here in

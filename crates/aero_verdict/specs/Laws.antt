@@ -1,5 +1,5 @@
 -- The laws of verdicts: that there is exactly one, and what it says of the graph of transactions.
-use Rattle.std.specs.Prelude.{◌≡◌, ℕ, suc, List, ◌∷◌, length}
+use Rattle.std.specs.Prelude.{◌≡◌, ℕ, suc, true, false, List, ◌∷◌, length, ⊤}
 use Rattle.aero_model.specs.declared.verdict.Verdict.{Verdict}
 use Rattle.aero_model.specs.declared.verdict.Verdict.TheVariants.{Serializable, Pending, Violation}
 use Rattle.aero_model.specs.Blocks.{Transaction, Block}
@@ -49,3 +49,18 @@ PendingCyclesPassTwoOpen =
     → IsVerdict parts rules (Pending events blocks pending)
     → IsCycle (checked_trace parts rules) (length (checked_trace parts rules)) first rest
     → TwoOpen (checked_trace parts rules) (length (checked_trace parts rules)) (first ∷ rest)
+
+-- the same rules, but blocks that are open stay open
+abbrev pub without_ends : Rules → Rules
+without_ends rules = record rules { end = false }
+
+-- No block is told as open, and where it is told that the trace is serializable, the graph has no cycle without the added ends either.
+abbrev pub HidesNothing : List Reading → Rules → Verdict → Type 0
+HidesNothing parts rules (Serializable events blocks) =
+    IsSerializable (checked_trace parts (without_ends rules)) (length (checked_trace parts (without_ends rules)))
+HidesNothing parts rules (Pending events blocks pending) = ⊥
+HidesNothing parts rules _ = ⊤
+
+-- where blocks that are open end, no verdict hides anything
+abbrev pub EndsHideNothing : Type 0
+EndsHideNothing = (parts : List Reading) (rules : Rules) (verdict : Verdict) → rules.end ≡ true → IsVerdict parts rules verdict → HidesNothing parts rules verdict

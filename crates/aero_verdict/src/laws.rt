@@ -1,5 +1,5 @@
 //! The laws of verdicts: that a trace has exactly one, and what it says of the graph of transactions.
-ghost use Rattle.aero_verdict.specs.Laws.{SomeVerdict, OneVerdict, SerializableHasNoCycle, ViolationHasCycle, PendingCyclesPassTwoOpen};
+ghost use Rattle.aero_verdict.specs.Laws.{SomeVerdict, OneVerdict, SerializableHasNoCycle, ViolationHasCycle, PendingCyclesPassTwoOpen, EndsHideNothing};
 
 /// All parts have a verdict under all limits and labels, whatever they hold.
 pub fn a_trace_has_a_verdict()
@@ -28,4 +28,11 @@ pub fn a_violation_is_a_cycle()
 /// ended: a cycle is left untold only where the trace ends before all its blocks but one have ended.
 pub fn each_cycle_of_a_pending_trace_passes_two_open_blocks()
     ensures { PendingCyclesPassTwoOpen }
+{}
+
+/// Where blocks that are open end, before their thread is joined and at the end, no verdict is `Pending`,
+/// and where it is `Serializable`, the transactions have no cycle of conflicts without the added ends
+/// either: no block that the trace leaves open hides one.
+pub fn where_blocks_end_nothing_is_hidden()
+    ensures { EndsHideNothing }
 {}

@@ -27,8 +27,9 @@
 //!   It stays certain, also where memory is refused. Else nothing is wrong yet, but for one line too many at most:
 //!   `told`, `certain`, `going_on`, `stays`.
 //! - `certain` gives that verdict, if there is one: `same`, `certain`.
-//! - `finish` gives the verdict on exactly the parts that were fed: `verdict`, `own_fault`. It refuses only a monitor
-//!   that is spent, as `feed` leaves it where memory was refused: `spent` of both.
+//! - `finish` gives the verdict on exactly the parts that were fed: `verdict`, `own_fault`. It refuses a monitor that is
+//!   spent, as `feed` leaves it where memory was refused, and, if no blocks are to end, no other: `spent` of both. Where they
+//!   are, it may also be refused memory for their ends; that it isn't otherwise is shown by tests alone.
 //! - If its rules say so, blocks that are open end: before their thread is joined, on the line of the join, and, if no
 //!   line is malformed, at the end, on the line after the last. Their ends are events that count: `Monitor::ruled`, `rules`.
 //! - `check_trace`, `check_trace_by` and `serial_order` feed their parts to a monitor: `feed_all`.
@@ -46,6 +47,8 @@
 //!   `Engine::judge`, `kept`.
 //! - All parts have exactly one verdict. `Serializable` means that there is no cycle at all, a violation that there is
 //!   one, and with open blocks each cycle passes two of them: `laws`.
+//! - If blocks that are open end, no verdict is `Pending`, and `Serializable` means that there is no cycle without
+//!   those ends either: `finish`, `hides_nothing`; `laws`.
 #![tactic(auto)]
 
 mod actor;

@@ -55,6 +55,7 @@ ghost use Rattle.aero_model.specs.Verdicts.{HasOwnFault};
 ghost use Rattle.aero_engine.specs.Given.{words_of};
 ghost use Rattle.aero_verdict.specs.declared.monitor.State.TheVariants.{Undecided};
 ghost use Rattle.aero_verdict.specs.Fed.{IsCertain, IsOpen};
+ghost use Rattle.aero_verdict.specs.Laws.{HidesNothing};
 ghost use Rattle.aero_verdict.specs.Monitored.{FedSo, is_spent, certain_of, TellsFed};
 ghost use Rattle.aero_verdict.specs.Parts.{IsPartExpected};
 ghost use Rattle.aero_verdict.specs.Verdict.{IsVerdict};
@@ -214,7 +215,8 @@ impl<E: Engine> Monitor<E> {
         &self.checker
     }
 
-    /// The verdict on exactly the parts that were fed.
+    /// The verdict on exactly the parts that were fed. If blocks that are open end, it isn't that some are open, and the trace
+    /// is serializable only if it is without their ends too.
     ///
     /// # Errors
     ///
@@ -222,6 +224,8 @@ impl<E: Engine> Monitor<E> {
     pub fn finish(self) -> Result<Verdict, AllocError>
         ensures verdict { IfOk result (IsVerdict self.parts self.rules) }
         ensures own_fault { IfOk result HasOwnFault }
+        ensures hides_nothing { self.rules.end ≡ true →
+            IfOk result (HidesNothing self.parts self.rules) }
         ensures spent { OnErr result (self.rules.end ≡ false → self.is_spent ≡ true) }
     {
         let (verdict, _checker) = self.into_verdict();

@@ -62,8 +62,6 @@ pub const TOO_MANY_LABEL_FILES: &str =
 pub const NO_STANDARD_LABELS: &str =
     "invalid value '-' for a file of labels: labels are not read from standard input";
 
-pub const END_WITH_LIST: &str = "the argument '--end' cannot be used with '--files0-from <LIST>'";
-
 pub const LONG_WITH_ORDER: &str =
     "the argument '--long' cannot be used with '--order', which keeps each transaction";
 

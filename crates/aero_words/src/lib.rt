@@ -14,7 +14,7 @@
 //!
 //! - A command line that is taken asks for 1 to 16 workers, reads of 1 to 1,048,576 bytes, at most 64 labels of options, at
 //!   most 64 files of labels, all of one kind, and at most 65,536 files: `settle_words`, `Config`.
-//! - `--long` and `--order` are never both taken, nor `--end` and a list of files: `Config`, `no_long_order`, `no_list_to_end`.
+//! - `--long` and `--order` are never both taken: `Config`, `no_long_order`.
 //!   Neither are two of files, a list of files and a name of standard input: `settle_words`, `AreAskedFor`.
 //! - What it asks for is what the options have on these words, defaults included, by `clap`'s definitions of how words
 //!   are read: each number and flag, the labels and their files, the files, their list, the name of standard input, the form of

@@ -132,12 +132,12 @@ isn't looked at, not even if it is malformed",
     OptionRow {
         name: "end",
         takes: Takes::Flag,
-        help: "End the blocks that are open at the end of an input",
-        long_help: "End each block that is open at the end of an input. The report is that
-of the input with a line `THREAD|end` after its last line for each
-open block, in the order in which the threads appear first. So no
-cycle stays hidden, and a violation may be on one of these lines. Not
-with --files0-from",
+        help: "End the blocks that are open at a join or at the end of an input",
+        long_help: "End each block that is open where another thread joins its thread,
+before the join, or else at the end of the input, as if the input had
+a `THREAD|end` for it there. These ends count as events. A violation
+that one of them closes is reported on the line of the join, or on the
+line after the last one. So no cycle stays hidden",
     },
     OptionRow {
         name: "format",

@@ -1,9 +1,9 @@
 //! The words of the command line, and what they ask for.
-ghost use Rattle.std.specs.Prelude.{◌≡◌, ◌<◌, ◌≤◌, ◌++◌, ◌∷◌, ◌&&◌, ◌||◌, ◌^◌, [], IfErr, IfOk, None, OnOk, Some, codes, false, length, map, nat_lt, not, option_map, pos, string_bytes, true, vec_len};
+ghost use Rattle.std.specs.Prelude.{◌≡◌, ◌<◌, ◌≤◌, ◌++◌, ◌∷◌, ◌&&◌, ◌||◌, ◌^◌, [], IfErr, IfOk, None, OnOk, Some, codes, false, length, map, nat_lt, option_map, pos, string_bytes, true, vec_len};
 ghost use Rattle.clap.specs.Words.{all_of, app_of, first_of, found_of, new_rule, one_of, rows_of, rule_of};
 ghost use Rattle.clap.specs.declared.builder.value_parser.ValueParser.TheVariants as vp;
 ghost use Rattle.std.specs.List.{list_any};
-ghost use Rattle.aero_program.specs.Command.{are_counted, count_named};
+ghost use Rattle.aero_program.specs.Command.{count_named};
 ghost use Rattle.aero_words.specs.Labels.{AreRefused, IsTold, is_no_label};
 ghost use Rattle.aero_words.specs.Line.{AreAskedFor, AsksFor, form_of, form_told, is_dash, is_told, no_rules, number_told, program, program_with, progress_told, rows_given, texts_told};
 ghost use Rattle.aero_words.specs.Words.{IsRead, parser_named, rule_by, rule_of_row};
@@ -158,7 +158,6 @@ fn settle(alloc: Global, matches: &ArgMatches<'_>) -> Result<Config, Refused>
     let workers = number_in(matches, "workers", MOST_WORKERS, DEFAULT_WORKERS);
     let piece = number_in(matches, "piece", MOST_PIECE, DEFAULT_PIECE);
     let sources = sources_in(alloc, matches)?;
-    let end = end_in(alloc, matches, &sources)?;
     let (except, only) = labels_in(alloc, matches)?;
     let (except_from, only_from) = label_files_in(alloc, matches, &except, &only)?;
     Ok(Config {
@@ -173,7 +172,7 @@ fn settle(alloc: Global, matches: &ArgMatches<'_>) -> Result<Config, Refused>
         explain: flag_in(matches, "explain"),
         long,
         stop: flag_in(matches, "stop"),
-        end,
+        end: flag_in(matches, "end"),
         fail_open: flag_in(matches, "fail-open"),
         fail_unchecked: flag_in(matches, "fail-unchecked"),
         form,
@@ -413,20 +412,6 @@ fn order_and_long_in(alloc: Global, matches: &ArgMatches<'_>) -> Result<(bool, b
         return Err(conflict(alloc, help::LONG_WITH_ORDER));
     }
     Ok((order, long))
-}
-
-// Whether open blocks are to end: not where the files stand in a list.
-fn end_in(alloc: Global, matches: &ArgMatches<'_>, sources: &Sources) -> Result<bool, Refused>
-    requires { IsRead (found_of matches.now) }
-    ensures told { IfOk result (λ end. end ≡
-        is_told (one_of (codes "end") (rows_of (found_of matches.now)))) }
-    ensures apart { IfOk result (λ end. (end && not (are_counted sources.now)) ≡ false) }
-{
-    let end = flag_in(matches, "end");
-    if end && !sources.are_counted() {
-        return Err(conflict(alloc, help::END_WITH_LIST));
-    }
-    Ok(end)
 }
 
 // That two things are given together that don't go together.

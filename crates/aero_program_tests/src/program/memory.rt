@@ -67,6 +67,15 @@ fn files_in_memory_are_read_to_their_ends(rt: HostRuntime) -> Result<(), Fail> {
     Ok(())
 }
 
+// Where blocks that are open are to end, it is judged with their ends.
+#[test]
+fn open_blocks_of_files_in_memory_end(rt: HostRuntime) -> Result<(), Fail> {
+    let mut asked = config_of(rt.alloc(), Some("a"), false)?;
+    asked.end = true;
+    assert!(rt; is_answered(rt, &Memory { text: OPEN }, Ok(asked), b"T1|odd\n", &SOUND, ENDED));
+    Ok(())
+}
+
 const VIOLATION: &[u8] = b"T1|begin\nT1|w(x)\nT2|w(x)\nT1|w(x)\nT1|end\n";
 
 const VIOLATED: Wanted = (
@@ -81,6 +90,13 @@ const OPEN: &[u8] = b"T1|begin\nT1|w(x)";
 const PENDING: Wanted = (
     b"a: no violation, 1 blocks open (2 events, 1 blocks)\n\
         traces 1: serializable 0, open 1, violations 0, faults 0\n",
+    b"",
+    0,
+);
+
+const ENDED: Wanted = (
+    b"a: serializable (3 events, 1 blocks)\n\
+        traces 1: serializable 1, open 0, violations 0, faults 0\n",
     b"",
     0,
 );

@@ -31,7 +31,7 @@ fn first_not_refused(alloc: Global, rows: &[Wrong]) -> Option<usize> {
     None
 }
 
-static REFUSED: [Wrong; 52] = [
+static REFUSED: [Wrong; 51] = [
     (
         &["--except-from", "a", "--only", "b"],
         "the argument '--only <LABEL>' cannot be used with '--except-from <FILE>'\n",
@@ -67,10 +67,6 @@ static REFUSED: [Wrong; 52] = [
     (
         &["--end=no"],
         "unexpected value 'no' for '--end' found; no more were expected\n",
-    ),
-    (
-        &["--files0-from", "a", "--end"],
-        "the argument '--end' cannot be used with '--files0-from <LIST>'\n",
     ),
     (
         &["--workers", "0"],

@@ -8,14 +8,14 @@ use Rattle.std.specs.IoError.{error_kind}
 use Rattle.aero_model.specs.Terms.{ruled}
 use Rattle.aero_telling.specs.Founds.{sighted, whose}
 use Rattle.aero_telling.proofs.Tellings.{summed}
-use Rattle.aero_intake.specs.PlanTerms.{terms_of}
+use Rattle.aero_intake.specs.PlanTerms.{options_with, terms_of}
 use Rattle.aero_report.specs.Asked.{note_of}
 use Rattle.aero_report.specs.Forms.{summary_line_in}
 use Rattle.aero_report.specs.Options.{Note}
 use Rattle.aero_program.specs.Traces.{input_of, sight_of, unused_in}
 use Rattle.aero_program.proofs.Unused.{found_labels, lines_told, summed_beside, told_labels}
 use Rattle.aero_program.specs.declared.command.Sources.{Sources}
-use Rattle.aero_program.specs.Executed.{Ends, TellsUnlisted, options_told}
+use Rattle.aero_program.specs.Executed.{Ends, TellsUnlisted}
 use Rattle.aero_program.specs.Command.{are_words, count_named, list_path, listed_by}
 use Rattle.aero_program.specs.Sizes.{name_and_reader}
 use Rattle.aero_program.specs.Sightings.{AreNames, AreUnlisted, IsLeftBeside, IsLeftUnlisted, source_sightings}
@@ -81,10 +81,10 @@ returns g c =
     (c.are_words.ensures ∙ ap are_words asked_is) c.all_notes-notes.result
     (subst (λ l. IfSome c.all_notes-notes.result (λ ns. AreNotes g.F.Opener.holds (noted_of_all input_of unused_in c.are_words.result l noted_endings report.told.notables.items) (map note_of ns.items))) c.deref-3.ensures.value c.all_notes-notes.ensures) in
     let notes : List Note = notes_on told.remarks in
-    let text : List (List ℕ) → List Note → List ℕ = λ ls ns. summary_line_in form (options_told config terms ls ns) report.told.counts in
+    let text : List (List ℕ) → List Note → List ℕ = λ ls ns. summary_line_in form (options_with terms ls ns) report.told.counts in
     let sums = summed_beside unused (λ u. map (λ label. label.now) u.items) c.all_notes-notes.result (λ ns. map note_of ns.items) text (labels_told None report.told.endings.items noted labels) notes
     report.cause cause mid after found told.told c.sum_up_with-cause.ensures.summed in
-    let run = summed terms form (summary_line_in form (options_told config terms (labels_told None report.told.endings.items noted labels) notes)) (map (sighted sight) sources) (map (sighted sight) left)
+    let run = summed terms form (summary_line_in form (options_with terms (labels_told None report.told.endings.items noted labels) notes)) (map (sighted sight) sources) (map (sighted sight) left)
     before.writer mid after report.told.endings.items report.told.notables.items report.told.counts report.cause cause c.run_all-report.ensures.told sums in
     let labels_are_told = told_labels input_of unused_in unused (λ u. u.items) (λ label. label.now) c.told_after-told.result.now report.cause cause report.told.endings.items words left noted_endings report.told.notables.items labels
     found c.sum_up_with-cause.ensures.known c.sum_up_with-cause.ensures.whole c.told_after-told.ensures.whole c.told_after-told.ensures.stopped in

@@ -12,15 +12,14 @@ pub returns-clause-summed : goal.returns-clause-summed
 returns-clause-summed g c = λ text is.
     let plan = c.args.plan.now in
     let counts = c.args.report.now.told.counts in
-    let ending : Options → Options = λ options. record options { end = c.args.beside.now.end } in
-    let line : Options → List ℕ = λ options. summary_line_in plan.form (ending options) counts in
+    let line : Options → List ℕ = λ options. summary_line_in plan.form options counts in
     let asked_are = c.options_with.ensures
     ∙ ap (λ ls. options_with (terms_of plan) (map (λ label. label.now) ls) (map note_of c.as_slice-2.result.now)) c.as_slice.ensures.value
     ∙ ap (λ ns. options_with (terms_of plan) (map (λ label. label.now) c.in-Some.names.items) (map note_of ns)) c.as_slice-2.ensures.value in
     let named = subst (λ o. IfSome o (λ names. IfSome c.args.beside.now.notes (λ notes. line (options_with (terms_of plan) (map (λ label. label.now) names.items) (map note_of notes.items)) ≡ text))) c.in-Some.is is in
     let wanted = subst (λ o. IfSome o (λ notes. line (options_with (terms_of plan) (map (λ label. label.now) c.in-Some.names.items) (map note_of notes.items)) ≡ text)) c.in-Some-notes.is named in
     subst (λ t. SumsUp t c.args.report.now.cause (seen_by g.W.Write.contents c.args.writer.now) (seen_by g.W.Write.contents c.sum_up.new.writer) c.sum_up.result)
-    (ap (λ o. summary_line_in plan.form o counts) c.ending-options.ensures ∙ (ap line asked_are ∙ wanted)) c.sum_up.ensures.summed
+    (ap line asked_are ∙ wanted) c.sum_up.ensures.summed
 
 pub returns-in_default-clause-summed : goal.returns-in_default-clause-summed
 returns-in_default-clause-summed g c = λ text is. c.refused_after.ensures.summed text (seen_by g.W.Write.contents c.args.writer.now)

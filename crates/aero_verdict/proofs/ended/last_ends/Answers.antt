@@ -1,4 +1,4 @@
-use Rattle.std.proofs.Common.{List, ℕ, sym, ◌∙◌}
+use Rattle.std.proofs.Common.{sym}
 use Rattle.aero_verdict.proofs.Chunks.{last_more}
 use Rattle.aero_verdict.proofs.ended.last_ends.Goals as goal
 

@@ -1,4 +1,4 @@
-use Rattle.std.proofs.Common.{List, ℕ, ◌++◌, ◌∷◌, [], map, take, ◌<◌, sym, ◌∙◌, ap, ap₂, subst, add-one, arith, ◌≤◌}
+use Rattle.std.proofs.Common.{◌++◌, ◌∷◌, [], map, take, ◌<◌, sym, ◌∙◌, ap, ap₂, subst, add-one, ◌≤◌}
 use Rattle.std.proofs.lemmas.List.{take_all}
 use Rattle.aero_model.specs.Ended.{open_of}
 use Rattle.aero_verdict.proofs.Chunks.{told_more}

@@ -1,4 +1,4 @@
-use Rattle.std.proofs.Common.{◌≡◌, ℕ, List, map, take}
+use Rattle.std.proofs.Common.{◌≡◌, List, map, take}
 use Rattle.aero_model.specs.Ended.{open_of}
 use Rattle.aero_model.specs.Exempt.{Listed, marked_trace}
 use Rattle.aero_model.specs.Named.{Named}

@@ -1,0 +1,29 @@
+use Rattle.std.proofs.Common.{◌≡◌, true, sym, subst}
+use Rattle.std.specs.Prelude.{IfOk, IfSome, Result}
+use Rattle.std.proofs.lemmas.Result.{IfOk-weaker}
+use Rattle.aero_model.specs.declared.verdict.Finding.{Finding}
+use Rattle.aero_model.specs.Verdicts.{verdict_of}
+use Rattle.aero_verdict.specs.Laws.{HidesNothing}
+use Rattle.aero_judge.specs.declared.judge.Judge.{Judge}
+use Rattle.aero_judge.specs.Judging.{judging_of}
+use Rattle.aero_judge.proofs.Hiding.{nothing_hidden}
+use Rattle.aero_judge.proofs.judge.Judge.finish.Goals as goal
+
+abbrev Hides : {E : Type 0} → Result Finding E → Judge → Type 0
+Hides r judge = (judging_of judge).terms.rules.end ≡ true → IfOk r (λ f. IfSome (verdict_of f) (HidesNothing (judging_of judge).parts (judging_of judge).terms.rules))
+
+pub returns-in-Plain-clause-hides_nothing : goal.returns-in-Plain-clause-hides_nothing
+returns-in-Plain-clause-hides_nothing c =
+    subst (Hides c.judged.result) (sym c.in-Plain.is) (λ ends. IfOk-weaker c.judged.result _ _ (λ f is. nothing_hidden _ _ f ends is) c.judged.ensures.finding)
+
+pub returns-in-InOrder-clause-hides_nothing : goal.returns-in-InOrder-clause-hides_nothing
+returns-in-InOrder-clause-hides_nothing c =
+    subst (Hides c.ordered.result) (sym c.in-InOrder.is) (λ ends. IfOk-weaker c.ordered.result _ _ (λ f is. nothing_hidden _ _ f ends is) c.ordered.ensures.finding)
+
+pub returns-in-Explaining-clause-hides_nothing : goal.returns-in-Explaining-clause-hides_nothing
+returns-in-Explaining-clause-hides_nothing c =
+    subst (Hides c.finish_to_explain.result) (sym c.in-Explaining.is) (λ ends. IfOk-weaker c.finish_to_explain.result _ _ (λ f is. nothing_hidden _ _ f ends is) c.finish_to_explain.ensures.finding)
+
+pub returns-in-InFull-clause-hides_nothing : goal.returns-in-InFull-clause-hides_nothing
+returns-in-InFull-clause-hides_nothing c =
+    subst (Hides c.finish_in_full.result) (sym c.in-InFull.is) (λ ends. IfOk-weaker c.finish_in_full.result _ _ (λ f is. nothing_hidden _ _ f ends is) c.finish_in_full.ensures.finding)
