@@ -112,10 +112,12 @@ impl Plan {
 
     /// The same plan, by which blocks that are open end before their thread is joined, and at the end of a source.
     pub fn ending(self) -> Plan
-        ensures { result ≡ record self { terms = record self.terms {
-          rules = record self.terms.rules
-              { end = true };
-        } } }
+        ensures { result ≡ record self {
+          terms = record self.terms {
+            rules = record self.terms.rules
+                { end = true };
+          };
+        } }
     {
         let mut plan = self;
         plan.terms.ask_to_end();

@@ -60,7 +60,7 @@ module _ (parts : List Reading) (rules : Rules) (ends : rules.end ≡ true) (no_
       ap (depth trace t) (judged_length all)
       ∙ judged_depth all t
       ∙ ap (count_below (λ k. not (is_latest_exempt all t k (length all))))
-        (open_by_number rules.labels named (tables_of named).threads refl t name at ∙ ap (λ es. open_of es name) named_are ∙ none_open own after_last name)
+      (open_by_number rules.labels named (tables_of named).threads refl t name at ∙ ap (λ es. open_of es name) named_are ∙ none_open own after_last name)
 
   none_deep : (t : ℕ) → depth trace t (length trace) ≡ 0
   none_deep t = elim (cases_lt 0 (depth trace t (length trace))) [

@@ -72,7 +72,16 @@ fn files_in_memory_are_read_to_their_ends(rt: HostRuntime) -> Result<(), Fail> {
 fn open_blocks_of_files_in_memory_end(rt: HostRuntime) -> Result<(), Fail> {
     let mut asked = config_of(rt.alloc(), Some("a"), false)?;
     asked.end = true;
-    assert!(rt; is_answered(rt, &Memory { text: OPEN }, Ok(asked), b"T1|odd\n", &SOUND, ENDED));
+    assert!(rt;
+        is_answered(
+            rt,
+            &Memory { text: OPEN },
+            Ok(asked),
+            b"T1|odd\n",
+            &SOUND,
+            ENDED
+        )
+    );
     Ok(())
 }
 
