@@ -14,7 +14,7 @@ use Rattle.aero_verdict.specs.Ordered.{AreStepsInOrder}
 use Rattle.aero_verdict.specs.Verdict.{IsVerdict}
 use Rattle.aero_model.specs.Terms.{Rules}
 
--- Both have the same verdicts, their transactions the same serial order, their violations the same telling cycles, and the same chunks are open.
+-- Both have the same verdicts, their transactions the same serial order, their violations the same telling cycles, and the same blocks are open.
 pub record AreJudgedAlike (parts others : List Reading) (rules : Rules) : Type 0 where
   pub verdicts : (verdict : Verdict) → IsVerdict parts rules verdict ↔ IsVerdict others rules verdict
   pub orders : (steps : List Step) → AreStepsInOrder parts rules steps ↔ AreStepsInOrder others rules steps
