@@ -34,7 +34,8 @@ enum {
     AERODROME_NO_NAME = 5,     /* a label, a thread or a target isn't a name, or the last label has no newline after it */
     AERODROME_MANY_LABELS = 6, /* there are more than 64 labels */
     AERODROME_NULL = 7,        /* a pointer is NULL, or a length is above PTRDIFF_MAX */
-    AERODROME_NO_EVENT = 8     /* there is no such operation, or it needs a target and has none, or takes no target and has one */
+    AERODROME_NO_EVENT = 8,    /* there is no such operation, or it needs a target and has none, or takes no target and has one */
+    AERODROME_NO_FLAG = 9      /* a flag isn't one of those below */
 };
 
 /* The operation of an event. */
@@ -47,6 +48,14 @@ enum {
     AERODROME_JOIN = 5,
     AERODROME_BEGIN = 6,
     AERODROME_END = 7
+};
+
+/* What a trace is begun with: one of these, or the sum of several. */
+enum {
+    AERODROME_LONG = 1,      /* a limit of 4,000,000,000 lines, as with `--long` */
+    AERODROME_ONLY = 2,      /* only the blocks with the labels are treated as atomic, as with `--only` */
+    AERODROME_EXPLAIN = 4,   /* aerodrome_cycle shows a violation, as aerodrome_begin_explained says */
+    AERODROME_END_BLOCKS = 8 /* open blocks end where their thread is joined, and at the end of the trace, as with `--end` */
 };
 
 /* The kind of a verdict. */
@@ -86,6 +95,7 @@ struct aerodrome_verdict {
 uint32_t aerodrome_held_begin(struct aerodrome *, bool);
 uint32_t aerodrome_held_begin_labelled(struct aerodrome *, bool, const void *, size_t, bool);
 uint32_t aerodrome_held_begin_explained(struct aerodrome *, bool, const void *, size_t, bool);
+uint32_t aerodrome_held_begin_with(struct aerodrome *, uint32_t, const void *, size_t);
 uint32_t aerodrome_held_feed(struct aerodrome *, const void *, size_t);
 uint32_t aerodrome_held_certain(struct aerodrome *, uint32_t *);
 uint32_t aerodrome_held_cycle(struct aerodrome *, char *, size_t, size_t *);
@@ -136,6 +146,20 @@ static inline uint32_t aerodrome_begin_explained(struct aerodrome *monitor, bool
     }
     assert(aerodrome_are_apart(monitor, sizeof *monitor, labels, length));
     return aerodrome_held_begin_explained(monitor, is_long, labels == NULL ? "" : labels, length, is_only);
+}
+
+/* Does the same with the flags above, or with 0, and with labels or without. Returns AERODROME_NO_FLAG for any other flag, and then changes
+ * nothing. A cycle that only an end at the end of the trace completes is known to aerodrome_verdict alone: aerodrome_cycle doesn't show it. */
+static inline uint32_t aerodrome_begin_with(struct aerodrome *monitor, uint32_t flags, const char *labels, size_t length)
+{
+    if (monitor == NULL || !aerodrome_may_be(labels, length)) {
+        return AERODROME_NULL;
+    }
+    if (flags > (AERODROME_LONG | AERODROME_ONLY | AERODROME_EXPLAIN | AERODROME_END_BLOCKS)) {
+        return AERODROME_NO_FLAG;
+    }
+    assert(aerodrome_are_apart(monitor, sizeof *monitor, labels, length));
+    return aerodrome_held_begin_with(monitor, flags, labels == NULL ? "" : labels, length);
 }
 
 /* Feeds the next piece of the trace, of any length: you may cut lines anywhere. */

@@ -16,6 +16,7 @@ static union {
 
 static uint32_t feed(void) { return aerodrome_feed(&both.monitor, both.bytes, 4); }
 static uint32_t labels(void) { return aerodrome_begin_labelled(&both.monitor, false, both.bytes, 4, false); }
+static uint32_t flagged_labels(void) { return aerodrome_begin_with(&both.monitor, AERODROME_ONLY, both.bytes, 4); }
 static uint32_t shown_labels(void) { return aerodrome_begin_explained(&both.monitor, false, both.bytes, 4, true); }
 static uint32_t certain(void) { return aerodrome_certain(&both.monitor, &both.is_certain); }
 static uint32_t size_of_cycle(void) { return aerodrome_cycle(&monitor, both.bytes, sizeof both, &both.size); }
@@ -54,6 +55,7 @@ int main(void)
     show("a struct and the bytes fed to it", feed);
     show("a struct and its labels", labels);
     show("a struct and the labels of a trace to be shown", shown_labels);
+    show("a struct and the labels of a trace with flags", flagged_labels);
     show("a struct and whether it is certain", certain);
     show("a struct and the lines of its cycle", cycle);
     show("the lines of a cycle and their size", size_of_cycle);

@@ -5,7 +5,7 @@
 
 static void show(const char *what, uint32_t status)
 {
-    static const char *const names[] = {"done", "unheld", "in use", "no memory", "short", "no name", "many labels", "null"};
+    static const char *const names[] = {"done", "unheld", "in use", "no memory", "short", "no name", "many labels", "null", "no event", "no flag"};
     printf("%s: %s\n", what, names[status]);
 }
 
@@ -66,6 +66,10 @@ int main(void)
     show("begin what is to be shown of NULL", aerodrome_begin_explained(NULL, false, NULL, 0, false));
     show("begin what is to be shown", aerodrome_begin_explained(&monitor, false, NULL, 0, false));
     show("begin it again", aerodrome_begin_explained(&monitor, false, NULL, 0, false));
+    show("begin it with flags", aerodrome_begin_with(&monitor, AERODROME_EXPLAIN, NULL, 0));
+    show("begin with a flag that isn't one", aerodrome_begin_with(&monitor, 16, NULL, 0));
+    show("begin with flags of NULL", aerodrome_begin_with(NULL, 0, NULL, 0));
+    show("begin with flags and labels at NULL", aerodrome_begin_with(&monitor, 0, NULL, 3));
     show("cycle of NULL", aerodrome_cycle(NULL, line, sizeof line, &length));
     show("cycle to NULL", aerodrome_cycle(&monitor, NULL, sizeof line, &length));
     show("its size to NULL", aerodrome_cycle(&monitor, line, sizeof line, NULL));

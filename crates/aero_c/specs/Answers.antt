@@ -40,34 +40,35 @@ pub record AreLimitsOf (is_long : Bool) (limits : Limits) : Type 0 where
   pub threads : limits.threads ≡ 2 ^ 16
   pub names : limits.names ≡ 2 ^ 26
 
--- nothing was fed yet, under these limits and with these labels, and a violation is to be shown or not
-pub record IsBegun (trace : Feeding) (is_long explains : Bool) (labels : Listed) : Type 0 where
+-- nothing was fed yet, under these limits and with these labels, a violation is to be shown or not, and blocks that are open end or don't
+pub record IsBegun (trace : Feeding) (is_long explains ends : Bool) (labels : Listed) : Type 0 where
   pub text : trace.text ≡ []
   pub limits : AreLimitsOf is_long trace.rules.limits
   pub labelled : trace.rules.labels ≡ labels
   pub explained : trace.explains ≡ explains
+  pub ended : trace.rules.end ≡ ends
   pub certain : trace.certain ≡ None
   pub unspent : trace.is_spent ≡ false
 
 -- A trace is begun; where memory was refused the monitor has none, as before.
-pub record Begun (new : Option Feeding) (status : ℕ) (is_long explains : Bool) (labels : Listed) : Type 0 where
+pub record Begun (new : Option Feeding) (status : ℕ) (is_long explains ends : Bool) (labels : Listed) : Type 0 where
   pub told : (status ≡ done) ⊎ (status ≡ no_memory)
-  pub begun : status ≡ done → Holds new (λ trace. IsBegun trace is_long explains labels)
+  pub begun : status ≡ done → Holds new (λ trace. IsBegun trace is_long explains ends labels)
   pub refused : status ≡ no_memory → new ≡ None
 
 -- a trace is begun where the monitor has none
-abbrev pub Begins : Option Feeding → Option Feeding → ℕ → (is_long explains : Bool) → Listed → Type 0
-Begins None new status is_long explains labels = Begun new status is_long explains labels
-Begins (Some was) new status is_long explains labels = (status ≡ in_use) × (new ≡ Some was)
+abbrev pub Begins : Option Feeding → Option Feeding → ℕ → (is_long explains ends : Bool) → Listed → Type 0
+Begins None new status is_long explains ends labels = Begun new status is_long explains ends labels
+Begins (Some was) new status is_long explains ends labels = (status ≡ in_use) × (new ≡ Some was)
 
 -- why labels are refused: one is no name, or has no byte 10 behind it; or there are too many; or memory is refused
 abbrev pub IsRefusal : List ℕ → ℕ → Type 0
 IsRefusal text status = ((status ≡ no_name) × (AreLabels text → ⊥)) ⊎ ((status ≡ many_labels) × AreTooMany text) ⊎ (status ≡ no_memory)
 
 -- A trace is begun where there is none and the labels aren't refused. Where it isn't, the monitor has what it had.
-pub record BeginsLabelled (old new : Option Feeding) (status : ℕ) (is_long is_only explains : Bool) (text : List ℕ) : Type 0 where
+pub record BeginsLabelled (old new : Option Feeding) (status : ℕ) (is_long is_only explains ends : Bool) (text : List ℕ) : Type 0 where
   pub told : (status ≡ done) ⊎ ((status ≡ in_use) × (is_some old ≡ true)) ⊎ IsRefusal text status
-  pub begun : status ≡ done → (old ≡ None) × ((listed : Listed) × IsListOf listed is_only text × Holds new (λ trace. IsBegun trace is_long explains listed))
+  pub begun : status ≡ done → (old ≡ None) × ((listed : Listed) × IsListOf listed is_only text × Holds new (λ trace. IsBegun trace is_long explains ends listed))
   pub kept : status ≢ done → new ≡ old
 
 -- it is told whether the verdict is certain, whatever bytes come: 1 where it is, and else 0

@@ -3,8 +3,9 @@ ghost use Rattle.std.specs.Prelude.{◌≡◌, ◌≢◌, ◌++◌, [], true, fa
 ghost use Rattle.aero_model.specs.Exempt.{these};
 ghost use Rattle.aero_c.specs.Statuses.{done, unheld};
 ghost use Rattle.aero_c.specs.Answers.{Answers, BeginsLabelled, IsAsked, Begins, Judges, ShowsHeld};
+ghost use Rattle.aero_c.specs.Flags.{has_flag};
 
-use crate::beginning::begin;
+use crate::beginning::{Asked, begin};
 use crate::holder::{Holder, put, take};
 use crate::judging::{ask, conclude, feed_piece, show};
 use crate::labels::list;
@@ -13,15 +14,29 @@ use crate::status::{DONE, MANY_LABELS, UNHELD};
 use aero_model::Except;
 use std::alloc::Global;
 
+// The bits of flags.
+const LONG: u32 = 1;
+
+const ONLY: u32 = 2;
+
+const EXPLAIN: u32 = 4;
+
+const END_BLOCKS: u32 = 8;
+
 /// Begins a trace under the ordinary limits, or those of a long source. Returns `IN_USE` where the monitor has one, and
 /// `NO_MEMORY`: it has what it had then.
 #[unsafe(no_mangle)]
 pub extern "C" fn aerodrome_held_begin(alloc: Global, monitor: &mut Holder, is_long: bool) -> u32
-    ensures { Begins monitor.old.pointer.held monitor.new.pointer.held result is_long false
+    ensures { Begins monitor.old.pointer.held monitor.new.pointer.held result is_long false false
         (these []) }
 {
+    let asked = Asked {
+        is_long,
+        explains: false,
+        ends: false,
+    };
     match Except::new(Vec::new(alloc)) {
-        Some(except) => begin(alloc, monitor, is_long, false, except),
+        Some(except) => begin(alloc, monitor, asked, except),
         None => MANY_LABELS,
     }
 }
@@ -40,12 +55,14 @@ pub extern "C" fn aerodrome_held_begin_labelled(
     is_only: bool,
 ) -> u32
     ensures { BeginsLabelled monitor.old.pointer.held monitor.new.pointer.held result is_long
-        is_only false labels.now }
+        is_only false false labels.now }
 {
-    match list(alloc, labels, is_only) {
-        Ok(listed) => begin(alloc, monitor, is_long, false, listed),
-        Err(status) => status,
-    }
+    let asked = Asked {
+        is_long,
+        explains: false,
+        ends: false,
+    };
+    begin_listed(alloc, monitor, asked, labels, is_only)
 }
 
 /// Begins a trace as `aerodrome_held_begin_labelled` does, whose violation `aerodrome_held_cycle` shows. Until an event
@@ -60,10 +77,51 @@ pub extern "C" fn aerodrome_held_begin_explained(
     is_only: bool,
 ) -> u32
     ensures { BeginsLabelled monitor.old.pointer.held monitor.new.pointer.held result is_long
-        is_only true labels.now }
+        is_only true false labels.now }
+{
+    let asked = Asked {
+        is_long,
+        explains: true,
+        ends: false,
+    };
+    begin_listed(alloc, monitor, asked, labels, is_only)
+}
+
+/// Begins a trace with labels as `aerodrome_held_begin_labelled` does, and with what the bits of `flags` ask for: 1 that it
+/// is a long source; 2 that the labels are those of the only blocks that are transactions; 4 that its violation is to be
+/// shown, as by `aerodrome_held_begin_explained`; 8 that blocks that are open end before their thread is joined, and at the
+/// end. Other bits ask for nothing.
+#[unsafe(no_mangle)]
+pub extern "C" fn aerodrome_held_begin_with(
+    alloc: Global,
+    monitor: &mut Holder,
+    flags: u32,
+    labels: &[u8],
+) -> u32
+    ensures { BeginsLabelled monitor.old.pointer.held monitor.new.pointer.held result
+        (has_flag flags 1) (has_flag flags 2) (has_flag flags 4) (has_flag flags 8) labels.now }
+{
+    let asked = Asked {
+        is_long: flags & LONG != 0,
+        explains: flags & EXPLAIN != 0,
+        ends: flags & END_BLOCKS != 0,
+    };
+    begin_listed(alloc, monitor, asked, labels, flags & ONLY != 0)
+}
+
+// Begins a trace with the labels of a text, if they are right and the monitor has none.
+fn begin_listed(
+    alloc: Global,
+    monitor: &mut Holder,
+    asked: Asked,
+    labels: &[u8],
+    is_only: bool,
+) -> u32
+    ensures { BeginsLabelled monitor.old.pointer.held monitor.new.pointer.held result asked.is_long
+        is_only asked.explains asked.ends labels.now }
 {
     match list(alloc, labels, is_only) {
-        Ok(listed) => begin(alloc, monitor, is_long, true, listed),
+        Ok(listed) => begin(alloc, monitor, asked, listed),
         Err(status) => status,
     }
 }

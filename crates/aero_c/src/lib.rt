@@ -9,7 +9,8 @@
 //!
 //! - A trace is begun where the monitor has none, under the limits and with the labels that are asked for, and nothing is
 //!   fed then; where it has one, or labels are refused, it has what it had: `aerodrome_held_begin`,
-//!   `aerodrome_held_begin_labelled`, `aerodrome_held_begin_explained`.
+//!   `aerodrome_held_begin_labelled`, `aerodrome_held_begin_explained`; with what each flag asks for:
+//!   `aerodrome_held_begin_with`.
 //! - Labels are refused only where one is no name or has no byte 10 behind it, where there are more than 64, or where
 //!   memory is refused: `aerodrome_held_begin_labelled`.
 //! - A trace has exactly the bytes that it was fed: `aerodrome_held_feed`. That its verdict is certain is told only where it
