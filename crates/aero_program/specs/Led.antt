@@ -1,5 +1,5 @@
 -- What an input has noted since it was made.
-use Rattle.std.specs.Prelude.{◌≡◌, ◌<◌, ℕ, true, false, List, take, is_some, IfSome, Option, Some, None, ⊤}
+use Rattle.std.specs.Prelude.{◌≡◌, ◌<◌, ℕ, true, List, take, is_some, IfSome, Option, Some, None, ⊤}
 use Rattle.aero_intake.specs.Source.{Origin, Place, Stream, File, Nowhere, Sight}
 use Rattle.aero_program.specs.declared.input.Input.{Input}
 use Rattle.aero_program.specs.declared.reason.Reason.{Reason}

@@ -13,7 +13,7 @@ returns-clause-summed g c = λ text is.
     let plan = c.args.plan.now in
     let counts = c.args.report.now.told.counts in
     let line : Options → List ℕ = λ options. summary_line_in plan.form options counts in
-    let asked_are = c.options_with.ensures
+    let asked_are = c.options_with-options.ensures
     ∙ ap (λ ls. options_with (terms_of plan) (map (λ label. label.now) ls) (map note_of c.as_slice-2.result.now)) c.as_slice.ensures.value
     ∙ ap (λ ns. options_with (terms_of plan) (map (λ label. label.now) c.in-Some.names.items) (map note_of ns)) c.as_slice-2.ensures.value in
     let named = subst (λ o. IfSome o (λ names. IfSome c.args.beside.now.notes (λ notes. line (options_with (terms_of plan) (map (λ label. label.now) names.items) (map note_of notes.items)) ≡ text))) c.in-Some.is is in
