@@ -191,15 +191,19 @@ uintptr_t aero_last_mutex(void) {
     return 0;
 }
 
+/* Locks that the C++ library has for variables of its own, as for the program's locale, of which each stream takes a copy: no program
+ * counts on their order. */
+static bool is_of_library(uintptr_t lock) { return aero_is_of_condition() || aero_is_of_cpp_library(lock); }
+
 void aero_acquired(uintptr_t lock, enum holding how, uintptr_t code) {
-    if (aero_is_of_condition() || !aero_enter()) return;
+    if (is_of_library(lock) || !aero_enter()) return;
     aero_lock();
     aero_hold(lock, how, code);
     aero_unlock();
     aero_leave();
 }
 enum holding aero_releasing(uintptr_t lock, uintptr_t code) {
-    if (aero_is_of_condition() || !aero_enter()) return 0;
+    if (is_of_library(lock) || !aero_enter()) return 0;
     aero_lock();
     enum holding how = aero_release(lock, code);
     aero_unlock();
@@ -220,7 +224,7 @@ static bool is_of_another(uintptr_t lock) {
 /* Gives the lock back by the C library's function. A mutex of another thread is given back while the log's lock is held: the C library
  * may refuse that (EPERM), and then nothing has happened. */
 static int given_back(void *lock, uintptr_t code, int (*real)(void *)) {
-    if (aero_is_of_condition() || !aero_enter()) return real(lock);
+    if (is_of_library((uintptr_t)lock) || !aero_enter()) return real(lock);
     aero_lock();
     bool is_others = is_of_another((uintptr_t)lock);
     int result = is_others ? real(lock) : 0;

@@ -67,7 +67,7 @@ struct held {
 enum { FEW_HELD = 16 };
 
 /* What a function of Rust's std does with a lock, and that which the thread is in; rust.c. */
-enum lock_call { NO_LOCK_CALL, TAKES, TRIES, TAKES_READER, TRIES_READER, TAKES_WRITER, TRIES_WRITER, GIVES_BACK, WAITS };
+enum lock_call { NO_LOCK_CALL, TAKES, TRIES, TAKES_READER, TRIES_READER, TAKES_WRITER, TRIES_WRITER, GIVES_BACK, DOWNGRADES, WAITS };
 struct locking {
     enum lock_call what;
     bool is_had;
@@ -277,6 +277,12 @@ void aero_names_start(void);
 void aero_library_loaded(uintptr_t code);             /* that has code there: its names are read */
 bool aero_is_loaded(const char *file, size_t length); /* whether that of a library is called so */
 bool aero_is_of_unwinder(uintptr_t code);             /* or of what C++ has for locales */
+/* Whether the address is in the C++ library's file, with its variables. */
+extern _Atomic uintptr_t aero_cpp_low, aero_cpp_bytes;
+static inline bool aero_is_of_cpp_library(uintptr_t at) {
+    uintptr_t low = atomic_load_explicit(&aero_cpp_low, memory_order_relaxed);
+    return UNLIKELY(at - low < atomic_load_explicit(&aero_cpp_bytes, memory_order_relaxed));
+}
 void aero_lock_names(void);
 void aero_unlock_names(void);
 const struct code *aero_code(uintptr_t at);           /* NULL where memory is refused */

@@ -29,6 +29,7 @@ struct object {
 enum { MOST_FILE = 255, MOST_PLACE = MOST_FILE + 32 };
 static struct object objects[MOST_OBJECTS];
 static int object_count;
+_Atomic uintptr_t aero_cpp_low, aero_cpp_bytes;
 
 /* The global variables of an object, from the first byte to the last one. The log's lock is held where these change, or are
  * looked at. */
@@ -223,6 +224,10 @@ static struct object *object_at(uintptr_t at) {
     now.path = keep_text(path);
     if (stat(path, &now.file)) now.file = (struct stat){0};
     *object = now;
+    if (begins(now.name, "libstdc++.so") || begins(now.name, "libc++.so")) {
+        atomic_store(&aero_cpp_low, now.low);
+        atomic_store(&aero_cpp_bytes, now.high - now.low);
+    }
     return object;
 }
 static bool is_program(const struct object *object) {

@@ -8,6 +8,7 @@
  *   Condvar::wait, wait_timeout and what calls these             rel(M), acq(M) of the mutex that was taken last
  *   RwLock::read, try_read, and the guard's drop                 r(rw.L)
  *   RwLock::write, try_write, and the guard's drop               w(rw.L)
+ *   RwLockWriteGuard::downgrade                                  w(rw.L), r(rw.L)
  *
  * aerodrome-rustc asks for the older form of symbols (_ZN..17hHASHE). One of the newer form (_R..) stays as it is, and none of these
  * functions is known by it. */
@@ -138,6 +139,7 @@ enum lock_call aero_lock_function(const char *label) {
         {"mutex::MutexGuard<T>", " as core::ops::drop::Drop>::drop", GIVES_BACK},
         {"rwlock::RwLockReadGuard<T>", " as core::ops::drop::Drop>::drop", GIVES_BACK},
         {"rwlock::RwLockWriteGuard<T>", " as core::ops::drop::Drop>::drop", GIVES_BACK},
+        {"rwlock::RwLockWriteGuard<T>", "::downgrade", DOWNGRADES},
         {"condvar::Condvar", "::wait", WAITS}, {"condvar::Condvar", "::wait_timeout", WAITS},
     };
     label += *label == '<';
@@ -176,14 +178,18 @@ void aero_leave_lock_function(uintptr_t code) {
     aero_unlock();
 }
 
+/* A writer that becomes a reader has the lock all the time. */
 bool aero_gives_back(uintptr_t word, uintptr_t code) {
-    return aero_me.locking.what == GIVES_BACK && aero_release(word, code);
+    enum lock_call what = aero_me.locking.what;
+    if ((what != GIVES_BACK && what != DOWNGRADES) || !aero_release(word, code)) return false;
+    if (what == DOWNGRADES) aero_hold(word, READER, code);
+    return true;
 }
 
 /* The first word that the function changes, or wants to, is the lock. */
 bool aero_takes(uintptr_t word, bool changes, uintptr_t code) {
     struct locking *it = &aero_me.locking;
-    if (it->what == GIVES_BACK || it->what == WAITS || it->is_had) return false;
+    if (it->what == GIVES_BACK || it->what == DOWNGRADES || it->what == WAITS || it->is_had) return false;
     if (!it->word) it->word = word;
     if (it->word != word) return false;
     if (changes) {

@@ -1,8 +1,10 @@
 /* Copies and fills of constant sizes, each from a global variable to another one that no other copy has. What the compiler makes of
  * them depends on the size, and on how the function is called. */
 #define _GNU_SOURCE
+#include <stdlib.h>
 #include <string.h>
 #include <strings.h>
+#include <wchar.h>
 
 #define COPY(name, bytes, call) \
     char from_##name##_##bytes[bytes], to_##name##_##bytes[bytes + 1]; \
@@ -48,8 +50,12 @@ SIZES(COPIES)
 
 /* Of a text of three bytes; a field of ten bytes is filled with zeros. */
 char to_strcpy[10], to_stpcpy[10], to_strncpy[10], to_strcat[10], to_strncat[10], to_builtin_strcpy[10], to_builtin_stpcpy[10],
-    to_builtin_strncpy[10];
-static void texts(void) {
+    to_builtin_strncpy[10], to_stpncpy[10], to_memccpy[10];
+wchar_t to_wcscpy[10], to_wcpcpy[10], to_wcsncpy[10], to_wcpncpy[10], to_wcscat[10], to_wcsncat[10], to_wmemcpy[10], to_wmemmove[10],
+    to_wmempcpy[10], to_wmemset[10];
+char from_strdup[] = "abc", from_strndup[] = "abcdef";
+wchar_t from_wcsdup[] = L"abc";
+static int texts(void) {
     strcpy(to_strcpy, "abc");
     stpcpy(to_stpcpy, "abc");
     strncpy(to_strncpy, "abc", 10);
@@ -58,12 +64,28 @@ static void texts(void) {
     __builtin_strcpy(to_builtin_strcpy, "abc");
     __builtin_stpcpy(to_builtin_stpcpy, "abc");
     __builtin_strncpy(to_builtin_strncpy, "abc", 10);
+    wcscpy(to_wcscpy, L"abc");
+    wcsncpy(to_wcsncpy, L"abc", 10);
+    wcscat(to_wcscat, L"abc");
+    wcsncat(to_wcsncat, L"abcd", 3);
+    wmemcpy(to_wmemcpy, L"abcd", 3);
+    wmemmove(to_wmemmove, L"abcd", 3);
+    wmemset(to_wmemset, L'a', 3);
+    const wchar_t *wide[] = {to_wcscpy, to_wcsncpy, to_wcscat, to_wcsncat, to_wcpcpy, to_wcpncpy, to_wmemcpy, to_wmemmove, to_wmempcpy};
+    int wrong = wcpcpy(to_wcpcpy, L"abc") != to_wcpcpy + 3 || wcpncpy(to_wcpncpy, L"abc", 10) != to_wcpncpy + 3
+        || wmempcpy(to_wmempcpy, L"abcd", 3) != to_wmempcpy + 3 || stpncpy(to_stpncpy, "abc", 10) != to_stpncpy + 3
+        || memccpy(to_memccpy, "abcd", 'c', 10) != to_memccpy + 3 || wcscmp(to_wmemset, L"aaa");
+    for (size_t one = 0; one < sizeof wide / sizeof *wide; one++) wrong |= wcscmp(wide[one], L"abc");
+    char *first = strdup(from_strdup), *second = strndup(from_strndup, 3);
+    wchar_t *third = wcsdup(from_wcsdup);
+    wrong |= strcmp(first, "abc") || strcmp(second, "abc") || wcscmp(third, L"abc");
+    free(first), free(second), free(third);
+    return wrong;
 }
 
 #define CALL(bytes) all_##bytes();
 int main(void) {
     SIZES(CALL)
-    texts();
-    return strcmp(to_strcpy, "abc") || strcmp(to_stpcpy, "abc") || strcmp(to_strncpy, "abc") || strcmp(to_strcat, "abc")
+    return texts() || strcmp(to_strcpy, "abc") || strcmp(to_stpcpy, "abc") || strcmp(to_strncpy, "abc") || strcmp(to_strcat, "abc")
         || strcmp(to_strncat, "abc") || to_memset_9[8] != 1;
 }
