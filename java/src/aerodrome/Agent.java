@@ -70,8 +70,9 @@ public final class Agent {
 
     private static void instrument(Instrumentation with) throws Exception {
         Module own = Agent.class.getModule();
-        // The synchronizers of locks, by which these have names, and the collections of iterators are fields of such classes.
-        Map<String, Set<Module>> opened = Map.of("java.util.concurrent.locks", Set.of(own), "java.util", Set.of(own));
+        // The synchronizers of locks, by which these have names, and the collections of iterators and views are fields of such classes.
+        Map<String, Set<Module>> opened = Map.of("java.util.concurrent.locks", Set.of(own), "java.util.concurrent", Set.of(own),
+                "java.util", Set.of(own));
         with.redefineModule(Object.class.getModule(), Set.of(), Map.of(), opened, Set.of(), Map.of());
         Locks.start();
         Iterators.start();

@@ -1,3 +1,4 @@
+import java.util.List;
 import java.util.concurrent.Callable;
 import java.util.concurrent.CompletableFuture;
 import java.util.concurrent.CompletionException;
@@ -109,7 +110,15 @@ public class Given {
         FutureTask<Object> task = new FutureTask<>(() -> 1);
         task.run();
         if (task.cancel(true)) throw new Error();
-        step = 20; //:
+        step = 20; //: es
+        CompletableFuture<Object> fifth = new CompletableFuture<>();
+        fifth.complete("d");
+        fifth.thenAccept(given -> { });
+        ExecutorService several = Executors.newSingleThreadExecutor();
+        step = 21; //: gBEs
+        several.invokeAll(List.<Callable<Integer>>of(() -> 1));
+        several.shutdown();
+        step = 22; //:
     }
 
     public static void main(String[] words) throws Exception {

@@ -330,6 +330,12 @@ public class Rows {
         StampedLock it = new StampedLock();
         long stamp = it.writeLock(); //: w(StampedLock@)
         it.unlockWrite(stamp); //: w(StampedLock@)
+        it.tryUnlockWrite();
+        it.writeLock(); //: w(StampedLock@)
+        it.tryUnlockWrite(); //: w(StampedLock@)
+        it.tryUnlockRead();
+        it.readLock(); //: r(StampedLock@)
+        it.tryUnlockRead(); //: r(StampedLock@)
         stamp = it.writeLockInterruptibly(); //: w(StampedLock@)
         it.unlock(stamp); //: w(StampedLock@)
         stamp = it.tryWriteLock(); //: w(StampedLock@)
@@ -490,6 +496,8 @@ public class Rows {
         one().forEach(item -> { }); //: w(LinkedBlockingDeque@.none#) w(LinkedBlockingDeque@.head#)
         one().toArray(); //: w(LinkedBlockingDeque@.none#) w(LinkedBlockingDeque@.head#)
         one().stream(); //: w(LinkedBlockingDeque@.none#) w(LinkedBlockingDeque@.head#)
+        one().parallelStream(); //: w(LinkedBlockingDeque@.none#) w(LinkedBlockingDeque@.head#)
+        one().spliterator(); //: w(LinkedBlockingDeque@.none#) w(LinkedBlockingDeque@.head#)
         one().remove("a"); //: r(LinkedBlockingDeque@.item#)
         one().removeFirstOccurrence("a"); //: r(LinkedBlockingDeque@.item#)
         one().removeLastOccurrence("a"); //: r(LinkedBlockingDeque@.item#)
@@ -583,6 +591,8 @@ public class Rows {
         it.toArray(); //: w(LinkedBlockingDeque@.none#) w(LinkedBlockingDeque@.head#)
         it = one();
         it.stream(); //: w(LinkedBlockingDeque@.none#) w(LinkedBlockingDeque@.head#)
+        it.parallelStream(); //: w(LinkedBlockingDeque@.head#) w(LinkedBlockingDeque@.none#) w(LinkedBlockingDeque@.head#)
+        it.spliterator(); //: w(LinkedBlockingDeque@.head#) w(LinkedBlockingDeque@.none#) w(LinkedBlockingDeque@.head#)
         it = seen();
         it.clear(); //: w(LinkedBlockingDeque@.head#)
         it = seen();
@@ -684,6 +694,8 @@ public class Rows {
         keys().forEach(key -> { }); //: r(ConcurrentHashMap@.clear) w(ConcurrentHashMap@.look#)
         keys().toArray(); //: r(ConcurrentHashMap@.clear) w(ConcurrentHashMap@.look#)
         keys().stream(); //: r(ConcurrentHashMap@.clear) w(ConcurrentHashMap@.look#)
+        keys().parallelStream(); //: r(ConcurrentHashMap@.clear) w(ConcurrentHashMap@.look#)
+        keys().spliterator(); //: r(ConcurrentHashMap@.clear) w(ConcurrentHashMap@.look#)
         keys().contains("a"); //: r(ConcurrentHashMap@.clear) r(ConcurrentHashMap@.key#)
         keys().remove("a"); //: r(ConcurrentHashMap@.clear) w(ConcurrentHashMap@.key#) w(ConcurrentHashMap@.all#)
         keys().clear(); //: w(ConcurrentHashMap@.clear)
@@ -793,6 +805,8 @@ public class Rows {
         it.forEach(item -> { }); //: r(LinkedList@)
         it.toArray(); //: r(LinkedList@)
         it.stream(); //: r(LinkedList@)
+        it.parallelStream(); //: r(LinkedList@)
+        it.spliterator(); //: r(LinkedList@)
         it.contains("a"); //: r(LinkedList@)
         it.remove("d"); //: w(LinkedList@)
         it.removeFirstOccurrence("d"); //: w(LinkedList@)

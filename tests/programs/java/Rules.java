@@ -30,6 +30,7 @@ import java.util.concurrent.atomic.AtomicLong;
 import java.util.concurrent.atomic.AtomicLongArray;
 import java.util.concurrent.atomic.AtomicReference;
 import java.util.concurrent.atomic.LongAdder;
+import java.util.concurrent.locks.AbstractQueuedLongSynchronizer;
 import java.util.concurrent.locks.AbstractQueuedSynchronizer;
 import java.util.concurrent.locks.Condition;
 import java.util.concurrent.locks.LockSupport;
@@ -97,7 +98,7 @@ public class Rules {
         Object[] objects = new Object[1];
         objects[0] = ints; //: w(Object[]@[0])
         System.arraycopy(ints, 0, ints, 1, 1); //: r(int[]@[0]) w(int[]@[1])
-        int[] copied = ints.clone();
+        int[] copied = ints.clone(); //: r(int[]@[0]) r(int[]@[1])
         copied[0] = 1; //: w(int[]@[0])
     }
 
@@ -234,6 +235,14 @@ public class Rules {
             throw new AssertionError(wrong);
         }
     }
+    static class LongSynchronizer extends AbstractQueuedLongSynchronizer {
+        void all() {
+            setState(1); //: w(Rules$LongSynchronizer@)
+            getState(); //: r(Rules$LongSynchronizer@)
+            compareAndSetState(1, 2); //: w(Rules$LongSynchronizer@)
+            compareAndSetState(1, 3); //: r(Rules$LongSynchronizer@)
+        }
+    }
     static class Synchronizer extends AbstractQueuedSynchronizer {
         void all() {
             setState(1); //: w(Rules$Synchronizer@)
@@ -259,6 +268,7 @@ public class Rules {
         UNSAFE.compareAndSwapInt(it, OFFSET, 9, 11); //: r(Rules.plain@)
         UNSAFE.putInt(ints, (long) Unsafe.ARRAY_INT_BASE_OFFSET + Unsafe.ARRAY_INT_INDEX_SCALE, 1); //: w(int[]@[1])
         new Synchronizer().all();
+        new LongSynchronizer().all();
     }
 
     static void helps() throws Exception {
@@ -365,7 +375,12 @@ public class Rules {
         Queue<Object> queue = new ArrayDeque<>();
         queue.add(map); //: w(ArrayDeque@)
         queue.remove(); //: w(ArrayDeque@)
-        Collections.synchronizedMap(plain).get("a"); //: r(Collections$SynchronizedMap@)
+        Collections.synchronizedMap(plain).get("a"); //: r(HashMap@)
+        Collections.unmodifiableCollection(list).size(); //: r(ArrayList@)
+        plain.keySet().remove("a"); //: r(HashMap@) w(HashMap@)
+        list.subList(0, 0).size(); //: r(ArrayList@) r(ArrayList@)
+        map.keySet().contains("a"); //: r(ConcurrentHashMap@.clear) r(ConcurrentHashMap@.all#) w(ConcurrentHashMap@.look#) r(ConcurrentHashMap@.clear) r(ConcurrentHashMap@.key#)
+        map.values().remove("a"); //: r(ConcurrentHashMap@.clear) r(ConcurrentHashMap@.all#) w(ConcurrentHashMap@.look#) w(ConcurrentHashMap@.clear)
     }
 
     static class Counter implements Runnable {

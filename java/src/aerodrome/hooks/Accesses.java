@@ -89,6 +89,24 @@ public final class Accesses {
             done();
         }
     }
+    /** In the place of an array's clone. */
+    public static Object copy(Object array, int site) {
+        Class<?> of = array.getClass().getComponentType();
+        int count = Array.getLength(array);
+        Object made = Array.newInstance(of, count);
+        LoggedThread me = Options.arrays == Options.Grain.OFF ? null : LoggedThread.accessing();
+        try {
+            if (me != null) {
+                Log.lock();
+                for (int one = 0; one < (Options.arrays == Options.Grain.WHOLE ? Math.min(count, 1) : count); one++)
+                    append(me, Events.READ, array, one, site);
+            }
+            System.arraycopy(array, 0, made, 0, count);
+        } finally {
+            done();
+        }
+        return made;
+    }
     private static boolean has(Object array, int first, int count) {
         return array != null && array.getClass().isArray() && first >= 0 && count >= 0 && count <= Array.getLength(array) - first;
     }

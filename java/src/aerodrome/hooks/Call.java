@@ -22,8 +22,9 @@ public final class Call {
     private Kind kind;
     /** How often the lock was held that the call gives back. */
     private int times;
-    /** Of a call of a queue. */
+    /** Of a call of a queue, or of an iterator of one, which is given then. */
     private Queues.Before queue;
+    private Object iterated;
     /** In which it arrived at a phaser. */
     private int phase;
     private boolean wasWithin;
@@ -56,9 +57,15 @@ public final class Call {
             case ARRIVE: case ARRIVE_AND_WAIT: phase = Phases.arrive(me, (Phaser) receiver, site); return;
             case RESETTING: Parts.write(me, receiver, Parts.Way.RESETS, site); return;
             case READ_BEFORE: write(Events.READ); return;
+            case READ_IF_HELD:
+                if (((StampedLock) receiver).isReadLocked()) write(Events.READ);
+                return;
+            case WRITE_IF_HELD:
+                if (((StampedLock) receiver).isWriteLocked()) write(Events.WRITE);
+                return;
             case STAMPED: beforeStamped(); return;
             case WRITE_BEFORE: Log.write(variable(Events.WRITE)); return;
-            case COLLECTION_WRITE: write(Events.WRITE); return;
+            case COLLECTION_WRITE: Events.write(me, Events.WRITE, Views.origin(receiver), site); return;
             case UNLOCK: Locks.unlocking(me, receiver, site); return;
             case WAIT: times = Thread.holdsLock(receiver) ? Events.release(me, receiver, Integer.MAX_VALUE, site) : 0; return;
             case AWAIT: times = Locks.giveBack(me, receiver, site); return;
@@ -114,7 +121,11 @@ public final class Call {
 
     private void beforeIterator() {
         Object of = Iterators.collection(receiver);
-        if (of != null) Events.write(me, Events.WRITE, of, site);
+        if (of == null || Maps.hasKeys(of)) return;
+        if (Calls.isQueue(of)) {
+            iterated = of;
+            queue = Queues.of(of).take();
+        } else Events.write(me, Events.WRITE, of, site);
     }
 
     // ---- behind the call
@@ -141,8 +152,9 @@ public final class Call {
                 if (isTrue) write(Events.WRITE);
                 return;
             case COLLECTION_READ:
-                if (result instanceof Iterator) Iterators.made(receiver);
-                write(Events.READ);
+                Object of = Views.origin(receiver);
+                if (result instanceof Iterator) Iterators.made(of);
+                Events.write(me, Events.READ, of, site);
                 return;
             case READ_AFTER: Log.write(variable(Events.READ)); return;
             case WRITE_AFTER: write(Events.WRITE); return;
@@ -167,6 +179,9 @@ public final class Call {
                 Queues.of(receiver).pulled(me, receiver, isTrue ? argument : null, isLast(), queue, site);
                 return;
             case PURGE: Queues.of(receiver).purged(me, receiver, queue, site); return;
+            case ITERATOR_WRITE:
+                if (iterated != null) Queues.of(iterated).purged(me, iterated, queue, site);
+                return;
             case LOOK: Queues.of(receiver).looked(me, receiver, isTrue, queue, site); return;
             case COUNT: Queues.of(receiver).counted(me, receiver, queue, site); return;
             case KEY_WITHIN:
@@ -207,7 +222,7 @@ public final class Call {
     private boolean isLast() { return kind == Kind.RECEIVE_LAST || kind == Kind.PEEK_LAST || kind == Kind.PULL_LAST; }
 
     private void failedQueue(Throwable thrown) {
-        Queues of = Queues.of(receiver);
+        Queues of = Queues.of(iterated == null ? receiver : iterated);
         boolean isNone = thrown instanceof NoSuchElementException;
         switch (kind) {
             case SEND: case SEND_FIRST: case HAND: case HAND_OVER: of.wasPut(argument, false, queue); return;

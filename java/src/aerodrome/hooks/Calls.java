@@ -6,6 +6,7 @@ import aerodrome.names.Numbered;
 import java.util.concurrent.BlockingQueue;
 import java.util.concurrent.ConcurrentLinkedDeque;
 import java.util.concurrent.ConcurrentLinkedQueue;
+import java.util.concurrent.locks.AbstractQueuedLongSynchronizer;
 import java.util.concurrent.locks.AbstractQueuedSynchronizer;
 
 /** What the code round a call calls. Stubs.java has that code, and Call.java what is logged. */
@@ -69,17 +70,20 @@ public final class Calls {
     /** The kind that fits the receiver. */
     private static Kind kind(int code, Object receiver, Object argument) {
         Kind kind = Kind.kind(code);
-        if (kind.ofState()) return receiver instanceof AbstractQueuedSynchronizer ? kind : Kind.NOTHING;
+        if (kind.ofState()) return isSynchronizer(receiver) ? kind : Kind.NOTHING;
         if (kind.isOpen()) return receiver.getClass().getClassLoader() == null ? kind.closed() : kind.apart();
         if (argument == null && isUnsafe(receiver)) return Kind.NOTHING;
         if (!kind.isContents()) return kind;
         if (!OPAQUE.get(receiver.getClass())) return Kind.NOTHING;
-        if (Kind.ofMap(code) != Kind.NOTHING && Maps.hasKeys(receiver)) return Kind.ofMap(code);
+        if (Kind.ofMap(code) != Kind.NOTHING && Maps.hasKeys(receiver)) return Maps.kind(Kind.ofMap(code), receiver);
         return Kind.ofQueue(code) != Kind.NOTHING && isQueue(receiver) ? Kind.ofQueue(code) : kind;
+    }
+    private static boolean isSynchronizer(Object receiver) {
+        return receiver instanceof AbstractQueuedSynchronizer || receiver instanceof AbstractQueuedLongSynchronizer;
     }
     /** By its name, as its class may not be there. */
     static boolean isUnsafe(Object receiver) { return receiver.getClass().getName().equals("sun.misc.Unsafe"); }
-    private static boolean isQueue(Object receiver) {
+    static boolean isQueue(Object receiver) {
         return receiver instanceof BlockingQueue || receiver instanceof ConcurrentLinkedQueue
                 || receiver instanceof ConcurrentLinkedDeque;
     }

@@ -38,16 +38,7 @@ public final class Iterators {
         // (a program with a SecurityManager may not look for fields)
         @SuppressWarnings("removal")
         @Override protected Outer computeValue(Class<?> of) {
-            return AccessController.doPrivileged((PrivilegedAction<Outer>) () -> outer(of));
-        }
-        private Outer outer(Class<?> of) {
-            for (Class<?> one = of; one != null && one.getName().startsWith("java.util."); one = one.getSuperclass())
-                try {
-                    return new Outer(handle(one, "this$0"));
-                } catch (ReflectiveOperationException | RuntimeException none) {
-                    // The class above may have it.
-                }
-            return new Outer(null);
+            return new Outer(AccessController.doPrivileged((PrivilegedAction<VarHandle>) () -> Views.field(of, "this$0")));
         }
     };
 
@@ -61,7 +52,7 @@ public final class Iterators {
     /** The collection of the iterator, or null. */
     static Object collection(Object iterator) {
         VarHandle field = OUTER.get(iterator.getClass()).field;
-        Object of = field == null ? null : field.get(iterator);
+        Object of = field == null ? null : Views.origin(field.get(iterator));
         Object set = of instanceof Map ? Numbers.tied(of) : null;
         Object known = set instanceof WeakReference ? ((WeakReference<?>) set).get() : null;
         return known != null ? known : of instanceof Collection || of instanceof Map ? of : null;

@@ -21,6 +21,8 @@ public enum Kind {
     READ_BEFORE(Group.ORDER), WRITE_BEFORE(Group.ORDER), READ_AFTER(Group.ORDER), WRITE_AFTER(Group.ORDER),
     /** Behind the call if it gives true, or a number that isn't 0. */
     READ_IF_TRUE(Group.ORDER), WRITE_IF_TRUE(Group.ORDER),
+    /** Before the call if any thread has the lock so. */
+    READ_IF_HELD(Group.ORDER), WRITE_IF_HELD(Group.ORDER),
     /** A read or a write before the call, by what its stamp says of the lock; a read behind it where the stamp stands for none. */
     STAMPED(Group.ORDER),
     /** The threads that signal don't depend on each other: an addition before the call. Behind the call all of these are read. */

@@ -9,7 +9,6 @@ import aerodrome.names.Text;
 import java.util.Collection;
 import java.util.Map;
 import java.util.UUID;
-import java.util.concurrent.ConcurrentHashMap;
 import java.util.concurrent.ConcurrentMap;
 import java.util.concurrent.ConcurrentSkipListSet;
 
@@ -26,13 +25,13 @@ final class Maps {
 
     /** Whether there is a variable for each key. */
     static boolean hasKeys(Object receiver) {
-        return receiver instanceof ConcurrentMap || receiver instanceof ConcurrentHashMap.KeySetView
-                || receiver instanceof ConcurrentSkipListSet;
+        Object map = Views.origin(receiver);
+        return map instanceof ConcurrentMap || map instanceof ConcurrentSkipListSet;
     }
-    /** A view of a map's keys, as newKeySet() gives one, is the map. */
-    private static Object map(Object receiver) {
-        boolean isView = receiver instanceof ConcurrentHashMap.KeySetView;
-        return isView ? ((ConcurrentHashMap.KeySetView<?, ?>) receiver).getMap() : receiver;
+    /** What a call of this kind is by a view of a map's values or entries: it may come upon any key. */
+    static Kind kind(Kind ofKey, Object receiver) {
+        if (ofKey == Kind.WHOLE_READ || ofKey == Kind.WHOLE_WRITE || Views.isOfKeys(receiver)) return ofKey;
+        return ofKey == Kind.KEY_READ ? Kind.WHOLE_READ : Kind.WHOLE_WRITE;
     }
     static boolean hasKey(Object receiver, Object key) {
         return receiver instanceof Map ? ((Map<?, ?>) receiver).get(key) != null : ((Collection<?>) receiver).contains(key);
@@ -40,7 +39,7 @@ final class Maps {
 
     /** Its lines stand in the log without one of another thread between. */
     static void write(LoggedThread me, Kind kind, Object receiver, Object key, int site) {
-        Object map = map(receiver);
+        Object map = Views.origin(receiver);
         boolean isOfKey = kind == Kind.KEY_READ || kind == Kind.KEY_WRITE;
         Keys telling = isOfKey ? Keys.of(key) : Keys.NOT;
         long number = isOfKey ? number(me, telling, key) : -1, of = Numbers.of(map);

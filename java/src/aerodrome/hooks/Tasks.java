@@ -7,7 +7,9 @@ import aerodrome.names.Numbers;
 import aerodrome.names.Site;
 import aerodrome.names.Text;
 import java.util.ArrayDeque;
+import java.util.Collection;
 import java.util.HashMap;
+import java.util.List;
 import java.util.Map;
 
 /**
@@ -87,6 +89,18 @@ public final class Tasks {
 
     public static void completes(Object task) { write(Events.WRITE, DONE, task); }
     public static void sees(Object task) { write(Events.READ, DONE, task); }
+    public static void seesAll(Object tasks) {
+        if (Log.on) for (Object one : (Object[]) tasks) sees(one);
+    }
+    /** Collections of the program's classes would call its code, so they aren't looked at. */
+    public static Collection<?> seenAll(Collection<?> tasks) {
+        if (Log.on && tasks.getClass().getClassLoader() == null) for (Object one : tasks) sees(one);
+        return tasks;
+    }
+    public static List<?> seenAll(List<?> tasks) {
+        seenAll((Collection<?>) tasks);
+        return tasks;
+    }
 
     /** Before the step that completes a future, unless it is complete already: that is made under the log's lock. */
     public static void completing(Object future) {
@@ -115,6 +129,11 @@ public final class Tasks {
         if (me != null) Log.hold(putLine(me, Events.READ, DONE, future, 1));
     }
     public static void looked() { Log.unlock(); }
+
+    /** Behind a look at the result of a future, for a stage that follows it: null if it isn't complete. */
+    public static void found(Object future, Object result) {
+        if (result != null) sees(future);
+    }
 
     // ---- lines
 

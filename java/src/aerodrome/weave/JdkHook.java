@@ -5,7 +5,7 @@ import java.util.Locale;
 
 /** A method of the JDK that calls a hook. */
 final class JdkHook {
-    enum Where { ENTRY, EXIT, ALWAYS, RUN, RESULT, SWAP, LOOK }
+    enum Where { ENTRY, EXIT, ALWAYS, RUN, RESULT, SWAP, LOOK, FOUND }
 
     /** Names of classes are a/b/C. */
     final String owner, method;
@@ -38,10 +38,11 @@ final class JdkHook {
     }
 
     /** Whether it stands somewhere within the method, if there is a place for it. */
-    boolean isWithin() { return where == Where.RUN || where == Where.SWAP || where == Where.LOOK; }
+    boolean isWithin() { return where == Where.RUN || where == Where.SWAP || where == Where.LOOK || where == Where.FOUND; }
 
     boolean isAt(String owner, String method, String descriptor) {
-        return this.owner.equals(owner) && this.method.equals(method)
+        boolean isNamed = this.method.startsWith("*") ? method.endsWith(this.method.substring(1)) : method.equals(this.method);
+        return isNamed && this.owner.equals(owner)
                 && (this.descriptor.isEmpty() || this.descriptor.equals(descriptor));
     }
 }

@@ -147,7 +147,14 @@ public final class JdkWeaver implements ClassFileTransformer {
         public void visitFieldInsn(int opcode, String owner, String name, String descriptor) {
             boolean isLook = opcode == GETFIELD && name.equals("result");
             if (isLook) callFound(JdkHook.Where.LOOK);
+            for (JdkHook one : hooks) if (isLook && one.where == JdkHook.Where.FOUND) mv.visitInsn(DUP);
             super.visitFieldInsn(opcode, owner, name, descriptor);
+            for (JdkHook one : hooks) {
+                if (!isLook || one.where != JdkHook.Where.FOUND) continue;
+                one.isFound = true;
+                mv.visitInsn(DUP_X1);
+                call(one, "Ljava/lang/Object;Ljava/lang/Object;", "V");
+            }
             for (JdkHook one : hooks)
                 if (isLook && one.where == JdkHook.Where.LOOK)
                     mv.visitMethodInsn(INVOKESTATIC, one.hookOwner, one.hookBehind, "()V", false);

@@ -36,8 +36,8 @@ final class StubWriter {
             "merge(" + OBJECT + OBJECT + "Ljava/util/function/BiFunction;)" + OBJECT);
 
     /** Methods of collections that don't take the monitor of those that have one. */
-    private static final Set<String> WITHOUT_MONITOR = Set.of("iterator", "descendingIterator", "listIterator", "stream", "elements",
-            "keys", "keySet", "entrySet", "values");
+    private static final Set<String> WITHOUT_MONITOR = Set.of("iterator", "descendingIterator", "listIterator", "stream",
+            "parallelStream", "spliterator", "elements", "keys", "keySet", "entrySet", "values");
 
     private final MethodVisitor code;
     private final Stub stub;

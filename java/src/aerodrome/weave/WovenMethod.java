@@ -284,6 +284,10 @@ final class WovenMethod extends AdviceAdapter {
             replace(ACCESSES, "copy", descriptor.replace(")", "I)"));
             return;
         }
+        if (owner.startsWith("[") && name.equals("clone") && !isOfEnum(owner)) {
+            replace(ACCESSES, "copy", "(" + OBJECT + "I)" + OBJECT);
+            return;
+        }
         Stub stub = of.takesStubs() ? of.stubs.round(opcode, owner, name, descriptor, isInterface) : null;
         if (stub != null) {
             super.visitLdcInsn(of.site(line));
@@ -298,6 +302,9 @@ final class WovenMethod extends AdviceAdapter {
             call("aerodrome/names/Numbers", "cloned", "(" + OBJECT + ")V");
         }
     }
+    /** Whether this is the method that the compiler makes to give an enum's constants, which nothing changes. */
+    private boolean isOfEnum(String array) { return isStatic && label.endsWith(".values") && array.equals("[L" + of.name + ";"); }
+
     private void replace(String owner, String hook, String descriptor) {
         super.visitLdcInsn(of.site(line));
         super.visitMethodInsn(INVOKESTATIC, owner, hook, descriptor, false);

@@ -1,0 +1,62 @@
+package aerodrome.hooks;
+
+import java.lang.invoke.MethodHandles;
+import java.lang.invoke.VarHandle;
+import java.security.AccessController;
+import java.security.PrivilegedAction;
+
+/**
+ * Views and wrappers of collections and maps: a map's keys, a sublist, a submap, and what Collections.unmodifiableList and
+ * Collections.newSetFromMap make. Their calls are logged as those of the collection or map behind them.
+ */
+final class Views {
+    /** The fields by which such classes of java.util, all of which are within others, have what is behind them. */
+    private static final String[] FIELDS = {"this$0", "root", "c", "m", "map"};
+
+    private Views() { }
+
+    /** Of a class: the field of what is behind it, or null. */
+    private static final class Behind {
+        final VarHandle field;
+
+        Behind(VarHandle field) { this.field = field; }
+    }
+    private static final ClassValue<Behind> BEHIND = new ClassValue<Behind>() {
+        // (a program with a SecurityManager may not look for fields)
+        @SuppressWarnings("removal")
+        @Override protected Behind computeValue(Class<?> of) {
+            return new Behind(AccessController.doPrivileged((PrivilegedAction<VarHandle>) () -> field(of, FIELDS)));
+        }
+    };
+
+    /** The first of these fields that the class has from one of java.util that is within another, or null. */
+    static VarHandle field(Class<?> of, String... names) {
+        for (Class<?> one = of; one != null && one.getName().matches("java\\.util\\..*\\$.*"); one = one.getSuperclass())
+            for (String name : names)
+                try {
+                    return MethodHandles.privateLookupIn(one, MethodHandles.lookup()).unreflectVarHandle(one.getDeclaredField(name));
+                } catch (ReflectiveOperationException | RuntimeException none) {
+                    // Another name, or the class above, may have it.
+                }
+        return null;
+    }
+
+    private static Object behind(Object view) {
+        VarHandle field = BEHIND.get(view.getClass()).field;
+        return field == null ? null : field.get(view);
+    }
+
+    /** The collection or map whose contents these are: the receiver itself, if it is no view. */
+    static Object origin(Object receiver) {
+        Object origin = receiver;
+        for (Object next; (next = behind(origin)) != null; ) origin = next;
+        return origin;
+    }
+
+    /** Whether arguments of its calls are keys of a map, and not values or entries. */
+    static boolean isOfKeys(Object receiver) {
+        for (Object one = receiver; one != null; one = behind(one))
+            if (one.getClass().getSimpleName().matches("(Values|EntrySet)(View)?")) return false;
+        return true;
+    }
+}
