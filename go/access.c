@@ -53,7 +53,10 @@ static void single(struct goroutine *t, const char *operation, word at, const st
     bool is_known = !parts || (*parts & part);
     if (!is_known && (*parts & WHOLE)) {
         whole(t, *parts & WHOLE_READ ? operation : "r", at, place);
-        if (*operation == 'r') return;
+        if (*operation == 'r') {
+            *parts |= WHOLE_READ;
+            return;
+        }
     }
     if (!is_known) *parts |= part;
     aero_event(t, operation, at, place);
@@ -124,7 +127,7 @@ void aero_atomic_access(struct goroutine *t, const struct atomic *it) {
     if (!parts) return;
     bool is_of_whole = it->bytes == 8 && (*parts & WHOLE) && !(*parts & atomic_at(at));
     if (is_of_whole) whole(t, operation, at, place);
-    if (!is_of_whole || *operation == 'w') *parts |= atomic_at(at);
+    *parts |= is_of_whole && *operation == 'r' ? WHOLE_READ : atomic_at(at);
     if (*parts >> (at & 7) & 1) aero_event(t, operation, at, place);
 }
 
