@@ -4,16 +4,19 @@
  *
  * A copy of a struct, or of part of a slice, is an access to each variable in it. Which these are is known for those that were
  * accessed alone before; besides, eight bytes are logged as a whole, X:8. From then on the first write of a part counts as
- * a write of the whole too, and until then a read of it as a read of the whole.
+ * a write of the whole too, and until then a read of it as a read of the whole. If the whole was only written so far, as by `*p = T{}`,
+ * a read of it is enough, which puts no order between the first writes of two parts.
  *
  * An atomic operation is one on X.a. If X is accessed both ways, each access counts as one of the other kind too, from its first one of
- * the other kind on: else a look without and a change with sync/atomic wouldn't conflict.
+ * the other kind on: else a look without and a change with sync/atomic wouldn't conflict. If eight bytes were copied before, one of all
+ * of them counts as one of the whole, up to the first that writes. (One of four bytes doesn't, for their neighbours' sake.)
  *
  * With AERODROME_GRAIN all accesses to so many bytes are to one variable, atomic operations too. */
 #include "log.h"
 
-/* Beside a bit for each part: the eight bytes were accessed as a whole; the first part, or the fifth one, by an atomic operation. */
-enum { WHOLE = 1 << 8, ATOMIC = 1 << 9, ATOMIC_UPPER = 1 << 10 };
+/* Beside a bit for each part: the eight bytes were accessed as a whole, and read so; the first part, or the fifth one, was accessed by
+ * an atomic operation. */
+enum { WHOLE = 1 << 8, ATOMIC = 1 << 9, ATOMIC_UPPER = 1 << 10, WHOLE_READ = 1 << 11 };
 static char name[512];
 
 static void named(struct goroutine *t, const char *operation, char *end, const struct code *place) {
@@ -49,8 +52,11 @@ static void single(struct goroutine *t, const char *operation, word at, const st
     uint16_t *parts = aero_parts(at), part = (uint16_t)(1 << (at & 7));
     bool is_known = !parts || (*parts & part);
     if (!is_known && (*parts & WHOLE)) {
-        whole(t, operation, at, place);
-        if (*operation == 'r') return;
+        whole(t, *parts & WHOLE_READ ? operation : "r", at, place);
+        if (*operation == 'r') {
+            *parts |= WHOLE_READ;
+            return;
+        }
     }
     if (!is_known) *parts |= part;
     aero_event(t, operation, at, place);
@@ -64,7 +70,7 @@ static void unit(struct goroutine *t, const char *operation, word at, const stru
         if (*parts >> part & 1) aero_event(t, operation, at + part, place);
         if (*parts & atomic_at(at + part)) by_atomic(t, operation, at + part, place);
     }
-    if (parts) *parts |= WHOLE;
+    if (parts) *parts |= *operation == 'r' ? WHOLE | WHOLE_READ : WHOLE;
     whole(t, operation, at, place);
 }
 
@@ -107,7 +113,10 @@ static bool is_local(const struct goroutine *t, word at) {
     return !it->is_shared;
 }
 
-void aero_atomic_access(struct goroutine *t, const char *operation, word at, const struct code *place) {
+void aero_atomic_access(struct goroutine *t, const struct atomic *it) {
+    const char *operation = it->writes ? "w" : "r";
+    const struct code *place = it->place;
+    word at = it->at;
     is_local(t, at);         /* (it counts as a touch, and has a line in any case) */
     if (aero_settings.grain) {
         aero_event(t, operation, start_of(at), place);
@@ -116,7 +125,9 @@ void aero_atomic_access(struct goroutine *t, const char *operation, word at, con
     uint16_t *parts = aero_parts(at);
     by_atomic(t, operation, at, place);
     if (!parts) return;
-    *parts |= atomic_at(at);
+    bool is_of_whole = it->bytes == 8 && (*parts & WHOLE) && !(*parts & atomic_at(at));
+    if (is_of_whole) whole(t, operation, at, place);
+    *parts |= is_of_whole && *operation == 'r' ? WHOLE_READ : atomic_at(at);
     if (*parts >> (at & 7) & 1) aero_event(t, operation, at, place);
 }
 

@@ -33,5 +33,5 @@ void aero_atomic(struct goroutine *t, const struct atomic *it) {
         t->boxed = it->at;
         return;
     }
-    aero_atomic_access(t, it->writes ? "w" : "r", it->at, it->place);
+    aero_atomic_access(t, it);
 }

@@ -32,24 +32,22 @@ bool aero_wants_blocks(void) { return base != ONLY_LISTED || name_count; }
 
 /* ---- names that match */
 
-/* An init function is pkg.init or pkg.init.0, and what it declares pkg.init.func1. */
 static bool is_usual(const char *label, const char *file) {
-    if (!strcmp(label, "main.main") || strstr(label, ".init.") || aero_ends_with(label, ".init")) return false;
+    if (!strcmp(label, "main.main") || aero_is_init(label)) return false;
     return !aero_ends_with(file, "_test.go") && !strstr(file, "_testmain.go") && !aero_is_of_library(label);
 }
 
-/* Whether the compiler made the function: main.(*Bank).Pay-fm, which calls Pay where that is a value, main.each-range1, the body of a
- * loop over a function (Go 1.23), or type..eq.main.Bank and type..hash.main.Bank (type:.eq. since Go 1.20), which compare and hash
- * values. It is a part of a function that has the label of the source. */
-static bool is_made_by_compiler(const char *label) {
-    if (begins(label, "type..") || begins(label, "type:.")) return true;
+/* Whether the compiler made the function: a wrapper, main.each-range1, the body of a loop over a function (Go 1.23), or
+ * type..eq.main.Bank and type..hash.main.Bank (type:.eq. since Go 1.20), which compare and hash values. It is a part of a function that
+ * has the label of the source. */
+static bool is_made_by_compiler(const char *label, const char *file) {
+    if (aero_is_wrapper(label, file) || begins(label, "type..") || begins(label, "type:.")) return true;
     const char *made = strrchr(label, '-');
-    if (!made) return false;
-    return !strcmp(made, "-fm") || (begins(made, "-range") && made[6] && !made[6 + strspn(made + 6, "0123456789")]);
+    return made && begins(made, "-range") && made[6] && !made[6 + strspn(made + 6, "0123456789")];
 }
 
 bool aero_is_block(const char *label, const char *file) {
-    if (begins(label, "runtime.") || begins(label, "internal/race.") || is_made_by_compiler(label)) return false;
+    if (begins(label, "runtime.") || begins(label, "internal/race.") || is_made_by_compiler(label, file)) return false;
     bool block = base == ALL || (base == USUAL && is_usual(label, file));
     for (size_t one = 0; one < name_count; one++)
         if (matches(names[one].text, names[one].length, label)) {

@@ -47,11 +47,12 @@ static void close_block(struct goroutine *t) {
 /* Whether the function does nothing but call Done, Lock or Unlock, as the one that the compiler makes for `defer both.Done()`. It is
  * no block, because it would have that one event only, and the program often ends before it does. */
 static bool only_defers(const struct goroutine *t, size_t depth) {
-    if (aero_starts_are_blocks() || depth + 1 >= t->depth) return false;
-    const struct frame *called = &t->frames[depth + 1];
-    enum asker asker = called->function->asker;
-    bool has_one_event = asker == WAIT_GROUP || asker == MUTEX || asker == READER || asker == WRITER;
-    return has_one_event && aero_only_ends(called->call);
+    if (aero_starts_are_blocks()) return false;
+    do {
+        if (++depth >= t->depth || !aero_only_ends(t->frames[depth].call)) return false;
+    } while (t->frames[depth].function->is & IS_WRAPPER);
+    enum asker asker = t->frames[depth].function->asker;
+    return asker == WAIT_GROUP || asker == MUTEX || asker == READER || asker == WRITER;
 }
 
 /* Before an event: so a block without events has no line. */
@@ -115,14 +116,14 @@ static bool is_one_line(const struct code *one, const struct code *other) {
 /* What a goroutine starts with is no block. Besides its first function that is
  *   - f of `go f(x)`, for which the compiler makes a function, in the line of the go statement, that calls f and does nothing behind
  *     it. The call is in that line too, or f is a literal that begins there. (So does `go func() { f(x) }()` in one line.)
- *   - f of a method value x.f, for which the compiler makes a function x.f-fm that calls f
+ *   - f that a wrapper calls, as that of a method value x.f
  *   - a literal or a method value that a function of another package starts with, as that of errgroup's Go does. */
 static bool is_start(const struct goroutine *t, const struct code *function, struct code *call) {
     if (!t->depth) return true;
     const struct frame *before = &t->frames[t->depth - 1];
     const struct code *first = before->function;
     if (!before->is_start) return false;
-    if (aero_ends_with(first->label->text, "-fm")) return aero_only_ends(call);
+    if (first->is & IS_WRAPPER) return aero_only_ends(call);
     if (t->depth > 1) return false;
     if (aero_is_given_to(first->label->text, function->label->text)) return true;
     bool is_made = t->go && is_one_line(t->go, first) && (is_one_line(t->go, call) || is_one_line(t->go, function));

@@ -107,7 +107,7 @@ static void ends_atomic(struct goroutine *t, bool is_logged, const struct atomic
 #define ATOMIC(name, work, does_write) \
     ENTRY(__tsan_go_atomic##name, aero_atomic##name) \
     void aero_atomic##name(struct goroutine *t, word call, word code, char *a, place_t here) { \
-        struct atomic it = {.at = AT(word, 0)}; \
+        struct atomic it = {.at = AT(word, 0), .bytes = *#name == '6' ? 8 : 4}; \
         bool is_logged = begins_atomic(here, t, call, &it); \
         (void)code; \
         work; \

@@ -58,7 +58,7 @@ enum {
     IS_BLOCK = 1, IS_RUNTIME = 2, IS_LOW = 4, IS_HOOK = 8, IS_SYNC = 16, IS_RACE = 32, IS_MAP = 64, IS_ENTRY = 128,
     IS_ENTRY_LOAD = 256, IS_COND_WAIT = 512, SENDS = 1024, RUNS_TIMERS = 2048, RETURNS_BY_DEFERRED = 4096, PANICS = 8192,
     IS_LIBRARY = 16384, IS_QUIET = 32768, IS_UNKNOWN = 65536, ENDS_PROGRAM = 131072,
-    LOADS_OR_STORES = 262144, DELETES = 524288
+    LOADS_OR_STORES = 262144, DELETES = 524288, IS_WRAPPER = 1048576
 };
 /* A return address: the function that it is in, and the function whose source it is of, which may be inlined there. */
 struct code {
@@ -112,6 +112,7 @@ struct sync {
     uint32_t owner_number;
     uint64_t sender;         /* of what is in the slot of a channel */
     bool is_handed;          /* a mutex that another goroutine has unlocked */
+    unsigned holders;        /* of a RWMutex, by the program */
     unsigned step;           /* of the steps that the runtime calls for one message */
     bool is_merged;          /* a WaitGroup in a round of Done */
     uint32_t slots;
@@ -199,6 +200,8 @@ void aero_code_start(void (*callback)(word, void *), const word *g);
 struct code *aero_code(word at);
 struct label *aero_label(const char *text);
 bool aero_is_of_library(const char *label);
+bool aero_is_init(const char *label);
+bool aero_is_wrapper(const char *label, const char *file);
 bool aero_is_given_to(const char *label, const char *value);    /* a function value of another package */
 /* Who asked, from the address on along the frames; *place is the first code that isn't of the runtime or of sync. */
 struct code *aero_asked(const struct here *here, word at, struct code **place);
@@ -266,18 +269,18 @@ struct suffix {
 };
 void aero_access(const struct here *here, struct goroutine *t, const struct access *it);
 bool aero_is_quiet(const struct goroutine *t);
-void aero_atomic_access(struct goroutine *t, const char *operation, word at, const struct code *place);
 void aero_event(struct goroutine *t, const char *operation, word at, const struct code *place);
 void aero_suffixed(struct goroutine *t, const char *operation, word at, const struct suffix *suffix);
 
 /* atomics.c */
 struct atomic {
-    word at;
+    word at, bytes;
     const struct code *place, *asker;
     bool writes, is_load;
     word found;              /* by a load */
 };
 void aero_atomic(struct goroutine *t, const struct atomic *it);
+void aero_atomic_access(struct goroutine *t, const struct atomic *it);    /* access.c */
 
 /* sync.c */
 enum order { ACQUIRE, RELEASE, MERGE, RELEASE_ACQUIRE };

@@ -99,16 +99,6 @@ static void mutex(struct goroutine *t, word at, bool locks, const struct code *p
     s->owner_number = t->number;
 }
 
-/* RLock acquires readerSem, and RUnlock releases writerSem. Lock acquires both, and Unlock releases readerSem. */
-static void reader(struct goroutine *t, const struct ordered *it) {
-    word lock = it->at - (word)(it->how == ACQUIRE ? aero_reader_sem : aero_writer_sem);
-    aero_suffixed(t, "r", lock, &(struct suffix){".rw", -1, it->place});
-}
-static void writer(struct goroutine *t, const struct ordered *it) {
-    if (it->how == ACQUIRE && !(t->half ^= 1)) return;
-    aero_suffixed(t, "w", it->at - (word)aero_reader_sem, &(struct suffix){".rw", -1, it->place});
-}
-
 /* Done merges, Wait acquires. The first Done behind a Wait begins another round. */
 static void wait_group(struct goroutine *t, const struct ordered *it) {
     struct sync *s = aero_sync(it->at);
@@ -146,6 +136,17 @@ static void lock_or_unlock(struct goroutine *t, const struct ordered *it) {
     if (!is_own_lock(it) || (!locks && aero_sync(it->at)->owner)) mutex(t, it->at, locks, it->place);
 }
 
+/* The same of a RWMutex. RLock acquires readerSem, and RUnlock releases writerSem. Lock acquires both, and Unlock releases readerSem. */
+static void read_or_write(struct goroutine *t, const struct ordered *it) {
+    bool locks = it->how == ACQUIRE, writes = it->asker->asker == WRITER;
+    if (locks && (is_own_lock(it) || (writes && !(t->half ^= 1)))) return;
+    struct sync *s = aero_sync(it->at - (word)(locks || writes ? aero_reader_sem : aero_writer_sem));
+    if (!s->holders && is_own_lock(it)) return;
+    if (locks) s->holders++;
+    else if (s->holders) s->holders--;
+    aero_suffixed(t, writes ? "w" : "r", s->at, &(struct suffix){".rw", -1, it->place});
+}
+
 /* Where Cond.Wait unlocks its lock, a Mutex or one of the two of a RWMutex, it waits. */
 static void wait_if_unlocked(const struct here *here, struct goroutine *t, const struct ordered *it) {
     enum asker asker = it->asker->asker;
@@ -166,9 +167,7 @@ void aero_order(const struct here *here, struct goroutine *t, word at, enum orde
     aero_drop_dead(t, here, here->stack);
     if (asker->asker == HELPER || asker->asker == NOBODY) return;
     if (asker->asker == MUTEX) lock_or_unlock(t, &it);
-    else if (is_own_lock(&it)) return;
-    else if (asker->asker == READER) reader(t, &it);
-    else if (asker->asker == WRITER) writer(t, &it);
+    else if (asker->asker == READER || asker->asker == WRITER) read_or_write(t, &it);
     else if (asker->asker == WAIT_GROUP) wait_group(t, &it);
     else if (asker->asker == TIMER_FIRES) timer_fires(t, &it);
     else if (asker->asker >= CHANNEL_SEND) aero_channel(t, &it);
