@@ -15,17 +15,23 @@ final class Views {
 
     private Views() { }
 
-    /** Of a class: the field of what is behind it, or null. */
+    /** Of a class: the field of what is behind it, or null, and whether arguments of its calls are keys of a map, and not values or entries. */
     private static final class Behind {
         final VarHandle field;
+        final boolean isOfKeys;
 
-        Behind(VarHandle field) { this.field = field; }
+        Behind(Class<?> of, VarHandle field) {
+            this.field = field;
+            isOfKeys = !of.getSimpleName().matches("(Values|EntrySet)(View)?");
+        }
+
+        Object of(Object view) { return field == null ? null : field.get(view); }
     }
     private static final ClassValue<Behind> BEHIND = new ClassValue<Behind>() {
         // (a program with a SecurityManager may not look for fields)
         @SuppressWarnings("removal")
         @Override protected Behind computeValue(Class<?> of) {
-            return new Behind(AccessController.doPrivileged((PrivilegedAction<VarHandle>) () -> field(of, FIELDS)));
+            return new Behind(of, AccessController.doPrivileged((PrivilegedAction<VarHandle>) () -> field(of, FIELDS)));
         }
     };
 
@@ -41,22 +47,20 @@ final class Views {
         return null;
     }
 
-    private static Object behind(Object view) {
-        VarHandle field = BEHIND.get(view.getClass()).field;
-        return field == null ? null : field.get(view);
-    }
-
     /** The collection or map whose contents these are: the receiver itself, if it is no view. */
     static Object origin(Object receiver) {
         Object origin = receiver;
-        for (Object next; (next = behind(origin)) != null; ) origin = next;
+        for (Object next; (next = BEHIND.get(origin.getClass()).of(origin)) != null; ) origin = next;
         return origin;
     }
 
     /** Whether arguments of its calls are keys of a map, and not values or entries. */
     static boolean isOfKeys(Object receiver) {
-        for (Object one = receiver; one != null; one = behind(one))
-            if (one.getClass().getSimpleName().matches("(Values|EntrySet)(View)?")) return false;
+        for (Object one = receiver; one != null; ) {
+            Behind behind = BEHIND.get(one.getClass());
+            if (!behind.isOfKeys) return false;
+            one = behind.of(one);
+        }
         return true;
     }
 }
