@@ -93,6 +93,9 @@ int main(int, char **word) {
     if (!strcmp(how, "stop")) {
         std::jthread waits([](std::stop_token stop) { take_or_stop(stop); });
         await();
+        // (all that the stop does is over before the thread has its lock again: else it may look in vain whether it is)
+        std::lock_guard<std::mutex> held(mutex);
+        waits.request_stop();
         return 0;
     }
     bool is_stale = !strcmp(how, "stale");
