@@ -92,8 +92,9 @@ class Names:
         return part if is_known or self.is_lasting else "%s, which isn't %s" % (name, part)
 
     def may_read(self, variable):
-        """Returns whether a write of the variable may read it too: objects of std look at their fields."""
-        return self.program.variables[variable].family == "object"
+        """Returns whether a write of the variable may read it too: objects of std look at their fields, and a bit-field is written with
+        the bits beside it."""
+        return self.program.variables[variable].family in ("object", "bits")
 
     def wider(self, variable, operation, lines, step):
         """Returns the accesses by the name of bytes before the variable, of the same eight (docs/logging-events.md, Sizes)."""
