@@ -9,7 +9,7 @@
  * that share none, both share a variable only where a part was read, or first written, of what was accessed as a whole before.
  *
  * A copy, as by memcpy, says nothing of the sizes: what it is the first to access becomes variables of four bytes, or of fewer at its
- * ends. As long as eight bytes were copied only, and all at a time, an access to all makes them one: its name is
+ * ends, and it splits none. As long as eight bytes were copied only, and all at a time, an access to all makes them one: its name is
  * that of the first four, which each copy has logged. Allocated again they begin anew. */
 #include "log.h"
 
@@ -76,7 +76,7 @@ static void log_parts(const char *operation, enum access how, uintptr_t at, unsi
     }
     unsigned parts = how == COPY ? copied(before, from, to) : accessed(before, from, to);
     unsigned first = start_of(parts, from), last = end_of(parts, to - 1);
-    if (*operation == 'w') parts = set_apart(parts, from, to);
+    if (how == PLAIN && *operation == 'w') parts = set_apart(parts, from, to);
     if (parts != before) *kept = (uint16_t)parts;
     for (; first < last; first = end_of(parts, first)) aero_line(operation, "", at + first, NULL, code);
 }
