@@ -132,7 +132,7 @@ isn't looked at, not even if it is malformed",
     OptionRow {
         name: "end",
         takes: Takes::Flag,
-        help: "End open blocks, before joins and at the end of inputs",
+        help: "End blocks that are open at a join or at the end",
         long_help: "End each block that is open where another thread joins its thread,
 before the join, or else at the end of the input, as if the input had
 a `THREAD|end` for it there. These ends count as events. A violation
