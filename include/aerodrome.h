@@ -149,7 +149,8 @@ static inline uint32_t aerodrome_begin_explained(struct aerodrome *monitor, bool
 }
 
 /* Does the same with the flags above, or with 0, and with labels or without. Returns AERODROME_NO_FLAG for any other flag, and then changes
- * nothing. A cycle that only an end at the end of the trace completes is known to aerodrome_verdict alone: aerodrome_cycle doesn't show it. */
+ * nothing. Blocks that are open at the end of the trace end in aerodrome_verdict, so aerodrome_cycle doesn't show a cycle that only such an
+ * end completes. */
 static inline uint32_t aerodrome_begin_with(struct aerodrome *monitor, uint32_t flags, const char *labels, size_t length)
 {
     if (monitor == NULL || !aerodrome_may_be(labels, length)) {

@@ -58,7 +58,7 @@ class Finding:
     """What the report says of one source. Of a cycle the transactions stand by their first lines, in the order of these.
 
     The blocks that aerodrome-refine left out are its `frames`: the blamed one, and those around it from the inside outwards.
-    If it `is_of_ended`, blocks that were open ended (--end): before the join on the line of their end, or else behind the last line of the source.
+    If it `is_of_ended`, blocks that were open ended (--end): before the join on the line of their end, or else behind the last line.
     """
 
     source: bytes

@@ -10,12 +10,12 @@ import java.security.PrivilegedAction;
  * Collections.newSetFromMap make. Their calls are logged as those of the collection or map behind them.
  */
 final class Views {
-    /** The fields by which such classes of java.util, all of which are within others, have what is behind them. */
+    /** The names of the fields in which such classes of java.util, all of them within others, hold the collection or map behind them. */
     private static final String[] FIELDS = {"this$0", "root", "c", "m", "map"};
 
     private Views() { }
 
-    /** Of a class: the field of what is behind it, or null, and whether arguments of its calls are keys of a map, and not values or entries. */
+    /** Of a class: the field that holds the collection behind it, or null; and whether its calls take keys, not values or entries. */
     private static final class Behind {
         final VarHandle field;
         final boolean isOfKeys;
