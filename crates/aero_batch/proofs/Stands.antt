@@ -7,7 +7,7 @@ use Rattle.std.proofs.KnownBytes.{Appends-nil}
 use Rattle.std.proofs.lemmas.List.{append-nil, length-map, map-append, length_push, length-replicate}
 use Rattle.std.proofs.lemmas.Option.{slice_get_within}
 use Rattle.aero_model.specs.declared.verdict.Ending.TheVariants.{Stopped}
-use Rattle.aero_model.specs.declared.verdict.Found as model
+use Rattle.aero_intake.specs.declared.found.Found as intake
 use Rattle.aero_model.specs.CallCounts.{Seen}
 use Rattle.aero_model.specs.Verdicts.{counted, total}
 use Rattle.aero_report.specs.declared.form.Form.{Form}
@@ -42,7 +42,7 @@ not_both : (b : Bool) → b ≡ true → b ≡ false → ⊥
 not_both b is_true is_false = cc (is_true, is_false)
 
 -- the tracks that may be told are those of sources that have ended
-found_tells : (terms : Terms) (old now : List Sighted) (p : Underway) (tale : ℕ → Story) (place : ℕ) (g : model.Found) →
+found_tells : (terms : Terms) (old now : List Sighted) (p : Underway) (tale : ℕ → Story) (place : ℕ) (g : intake.Found) →
     Holds terms old now p tale → place < p.read →
     slice_get p.tracks.items place ≡ Some (tracks.Found g) → (name : List ℕ) →
     ((b : Sighted) → slice_get old place ≡ Some b → b.name ≡ name) →
@@ -100,7 +100,7 @@ name_then (c ∷ old) (x ∷ now) (suc s) b names was named =
     name_then old now s b rest was named
 
 -- one more source is told
-pub told_stands : (terms : Terms) (form : Form) (old now : List Sighted) (before mid after : Seen) (p : Underway) (a b : Told) (g : model.Found)
+pub told_stands : (terms : Terms) (form : Form) (old now : List Sighted) (before mid after : Seen) (p : Underway) (a b : Told) (g : intake.Found)
     (name : List ℕ) →
     vec_len a.endings < p.checked → slice_get p.tracks.items (vec_len a.endings) ≡ Some (tracks.Found g) →
     ((x : Sighted) → slice_get now (vec_len a.endings) ≡ Some x → x.name ≡ name) →
@@ -167,7 +167,7 @@ memory_stops terms form old now now' before mid after p a st same names took =
     (took_nothing before mid after (lines_of_all form st.founds) st.are_told.took took)
 
 -- a write of the next source's line failed
-pub line_stops : (terms : Terms) (form : Form) (old now : List Sighted) (before mid after : Seen) (p : Underway) (a : Told) (g : model.Found)
+pub line_stops : (terms : Terms) (form : Form) (old now : List Sighted) (before mid after : Seen) (p : Underway) (a : Told) (g : intake.Found)
     (name : List ℕ) →
     vec_len a.endings < p.checked → slice_get p.tracks.items (vec_len a.endings) ≡ Some (tracks.Found g) →
     ((x : Sighted) → slice_get now (vec_len a.endings) ≡ Some x → x.name ≡ name) → WasCut mid after (source_line_in form name g.finding) →
@@ -338,7 +338,7 @@ module _ (terms : Terms) (form : Form) (now : List Sighted) (mid after : Seen) (
   not_told : (after ≡ mid) × (b ≡ a) → Tellings (Ok false)
   not_told same = ((λ e old before st. cc (e)), (λ e. same), tt)
 
-  found_told : (g : model.Found) (r : Result Bool Cause) → slice_get p.tracks.items (vec_len a.endings) ≡ Some (tracks.Found g) →
+  found_told : (g : intake.Found) (r : Result Bool Cause) → slice_get p.tracks.items (vec_len a.endings) ≡ Some (tracks.Found g) →
       TellsFound form name g mid after a b r → Tellings r
   found_told g (Ok true) at tells = (
     (λ e old before st. told_stands terms form old now before mid after p a b g name below at named tells.0 tells.1 st),

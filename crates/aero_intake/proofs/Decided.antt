@@ -15,7 +15,7 @@ use Rattle.aero_verdict.proofs.Ending.{counted_same_front}
 use Rattle.aero_verdict.proofs.Readings.{after_faulty, after_faultless}
 use Rattle.aero_model.specs.Terms.{Rules}
 use Rattle.aero_intake.specs.Laws.{AreJudgedAlike, FirstChunksDecide}
-use Rattle.aero_intake.specs.Tracks.{decides}
+use Rattle.aero_intake.specs.Held.{decides}
 use Rattle.aero_intake.proofs.Judged.{counted_alike}
 use Rattle.aero_judge.proofs.SameVerdict.{one_read}
 
@@ -92,7 +92,7 @@ counts_alike limit e n None v is above =
       fault = too_many limit n beyond ∙ sym (fault_later limit n v.lines v.fault beyond above);
     }
 
-front_counts : (rules : Rules) (parts : List Reading) (more : List (List ℕ)) → decides rules.limits parts ≡ true →
+pub front_counts : (rules : Rules) (parts : List Reading) (more : List (List ℕ)) → decides rules.limits parts ≡ true →
     CountsAlike rules.limits.lines (whole_reading parts) (whole_reading (parts ++ map reading_of more))
 front_counts rules parts more is =
     let w = whole_reading parts in

@@ -1,9 +1,12 @@
 mod AloneSteps
 pub mod AsFar
+pub mod Begins
 pub mod Decided
 pub mod Decisive
 mod Filled
 pub mod Judged
+mod Joining
+mod Surveyed
 pub mod Taken
 pub mod Tracked
 pub mod Values

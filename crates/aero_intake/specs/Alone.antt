@@ -4,13 +4,13 @@ use Rattle.std.specs.List.{concat}
 use Rattle.aero_model.specs.declared.verdict.Ending.{Ending}
 use Rattle.aero_model.specs.declared.verdict.Ending.TheVariants as endings
 use Rattle.aero_model.specs.declared.verdict.Finding.{Finding}
-use Rattle.aero_model.specs.declared.verdict.Found.{Found}
 use Rattle.aero_model.specs.Terms.{Terms, to_the_end}
 use Rattle.aero_grammar.specs.Reading.{reading_of}
 use Rattle.aero_lines.specs.Cutting.{nothing_yet, blocks_from}
 use Rattle.aero_judge.specs.Finding.{IsFinding}
 use Rattle.aero_judge.specs.Judging.{Judging}
 use Rattle.aero_intake.specs.Held.{IsDecisive}
+use Rattle.aero_intake.specs.declared.found.Found.{Found}
 use Rattle.aero_intake.specs.Intake.{Taking, IsTaken, HasCome}
 use Rattle.aero_intake.specs.Source.{Sight, WasRead}
 use Rattle.aero_intake.specs.Stories.{AreEnough, BeginAlike}

@@ -1,11 +1,12 @@
 -- What is held of a source whose chunks are being read.
 use Rattle.std.specs.Prelude.{◌≡◌, ◌↔◌, ℕ, ◌-◌, ◌^◌, min, nat_lt, Bool, true, false, ◌||◌, is_some, List, [], ◌∷◌, ◌++◌, map, length, ⊤}
 use Rattle.std.specs.List.{sum_by}
-use Rattle.aero_grammar.specs.Reading.{Reading, reading_of}
+use Rattle.aero_grammar.specs.Reading.{Reading, reading_of, whole_reading, malformed_line}
 use Rattle.aero_intake.specs.declared.held.Held.{Held}
 use Rattle.aero_intake.specs.declared.held.Held.TheVariants.{Kept, Live}
 use Rattle.aero_intake.specs.declared.held.Basis.{Basis}
 use Rattle.aero_intake.specs.declared.held.Basis.TheVariants.{ByParts, Already}
+use Rattle.aero_model.specs.declared.limits.Limits.{Limits}
 use Rattle.aero_model.specs.declared.verdict.Finding.{Finding}
 use Rattle.aero_judge.specs.Finding.{IsTraceFinding}
 use Rattle.aero_model.specs.Terms.{Terms, to_the_end}
@@ -42,6 +43,10 @@ with_next most certain known part = record {
 -- These parts decide: whatever chunks come after them, what is found is the same.
 abbrev pub IsDecisive : Terms → List Reading → Type 0
 IsDecisive terms parts = (more : List (List ℕ)) (f : Finding) → IsTraceFinding (parts ++ map reading_of more) terms f ↔ IsTraceFinding parts terms f
+
+-- Whether what was read decides, whatever comes after it: a line of it is malformed, or there are more lines than may be.
+abbrev pub decides : Limits → List Reading → Bool
+decides limits parts = is_some (malformed_line limits.lines (whole_reading parts))
 
 -- what the chunks say
 abbrev pub parts_in : Held → List Reading

@@ -7,7 +7,7 @@ use Rattle.aero_model.specs.declared.verdict.Step.{Step}
 use Rattle.aero_model.specs.declared.verdict.Verdict.{Verdict}
 use Rattle.aero_grammar.specs.Reading.{Reading, reading_of}
 use Rattle.aero_lines.specs.Cutting.{nothing_yet, blocks_from}
-use Rattle.aero_intake.specs.Tracks.{decides}
+use Rattle.aero_intake.specs.Held.{decides}
 use Rattle.aero_verdict.specs.Explained.{IsCycleOf}
 use Rattle.aero_judge.specs.Opened.{AreOpenBlocks}
 use Rattle.aero_verdict.specs.Ordered.{AreStepsInOrder}

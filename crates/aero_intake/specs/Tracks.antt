@@ -1,22 +1,17 @@
 -- How far a source is.
-use Rattle.std.specs.Prelude.{◌≡◌, ◌⊎◌, ℕ, Bool, false, ◌||◌, is_some, List, length, Option, Some, None, ⊤}
-use Rattle.aero_model.specs.declared.limits.Limits.{Limits}
+use Rattle.std.specs.Prelude.{◌≡◌, ◌⊎◌, ℕ, Bool, false, ◌||◌, List, length, Option, Some, None, ⊤}
 use Rattle.aero_model.specs.declared.verdict.Ending.{Ending}
 use Rattle.aero_model.specs.declared.verdict.Finding.{Finding}
 use Rattle.aero_model.specs.declared.verdict.Finding.TheVariants as findings
-use Rattle.aero_grammar.specs.Reading.{Reading, whole_reading, malformed_line}
+use Rattle.aero_grammar.specs.Reading.{Reading}
 use Rattle.aero_judge.specs.Finding.{IsTraceFinding}
 use Rattle.aero_pieces.specs.declared.answer.Value.{Value}
 use Rattle.aero_pieces.specs.declared.answer.Value.TheVariants.{Parsed, Judged, Ordered, Explained, Opened}
-use Rattle.aero_intake.specs.Held.{Known, with_next, IsDecisive}
+use Rattle.aero_intake.specs.Held.{Known, with_next, decides, IsDecisive}
 use Rattle.aero_intake.specs.declared.track.Track.{Track}
 use Rattle.aero_intake.specs.declared.track.Track.TheVariants.{Arriving, Arrived, Checking, Found}
 
--- Whether what was read decides, whatever comes after it: a line of it is malformed, or there are more lines than may be.
-abbrev pub decides : Limits → List Reading → Bool
-decides limits parts = is_some (malformed_line limits.lines (whole_reading parts))
-
--- whether that is so of what is known of a source that is still coming
+-- whether a line of a source that is still coming is known to be malformed, or one too many
 abbrev pub is_faulty : Track → Bool
 is_faulty (Arriving known) = decides known.terms.rules.limits known.parts
 is_faulty track = false

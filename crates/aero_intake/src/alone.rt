@@ -10,12 +10,13 @@ ghost use Rattle.aero_model.specs.Terms.{to_the_end};
 ghost use Rattle.aero_judge.specs.Finding.{IsTraceFinding};
 ghost use Rattle.aero_judge.specs.Judging.{judging_of, nothing_judged};
 
+use crate::found::Found;
 use crate::intake::{Intake, Taken};
 use crate::plan::Plan;
 use crate::source::Followed;
 use aero_judge::Judge;
 use aero_lines::Block;
-use aero_model::{Ending, Except, Finding, Found, Terms};
+use aero_model::{Ending, Except, Finding, Terms};
 use std::alloc::{AllocError, Global};
 use std::sync::Wait;
 use std::sync::atomic::{AtomicBool, Ordering};

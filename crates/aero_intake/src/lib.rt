@@ -45,14 +45,19 @@
 #![tactic(auto)]
 
 pub mod alone;
+pub mod begun;
+pub mod found;
 pub mod held;
 pub mod intake;
 pub mod laws;
 pub mod live;
 pub mod plan;
 pub mod source;
+pub mod survey;
 pub mod track;
 
+pub use begun::Begun;
+pub use found::Found;
 pub use intake::Intake;
 pub use plan::{Keeping, Plan};
 pub use source::{Followed, Source, SourceOf};

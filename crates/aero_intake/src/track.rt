@@ -1,12 +1,13 @@
 //! What is known of a source while it is worked on.
 ghost use Rattle.std.specs.Prelude.{◌≡◌, ◌||◌, length, true, OnOk, IfOk, ◌↔◌, IsTrue};
-ghost use Rattle.aero_intake.specs.Held.{nothing_read, with_next, IsDecisive, IsBasis};
-ghost use Rattle.aero_intake.specs.Tracks.{with_part, with_finding, with_value, with_arrival, certain_of, decides, is_faulty, is_told, IsDecided, IsReady};
+ghost use Rattle.aero_intake.specs.Held.{decides, nothing_read, with_next, IsDecisive, IsBasis};
+ghost use Rattle.aero_intake.specs.Tracks.{with_part, with_finding, with_value, with_arrival, certain_of, is_faulty, is_told, IsDecided, IsReady};
 ghost use Rattle.aero_intake.specs.Tracks.{TakesKnown, GivesParts};
 
+use crate::found::Found;
 use crate::held::{Basis, Held, add_to, basis_of, held_count, is_certain, nothing_held};
 use aero_grammar::Parsed;
-use aero_model::{Ending, Finding, Found, Terms};
+use aero_model::{Ending, Finding, Terms};
 use aero_pieces::{Parts, Value};
 use std::alloc::{AllocError, Global};
 use std::marker::Model;

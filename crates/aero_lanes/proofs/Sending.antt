@@ -10,7 +10,7 @@ use Rattle.aero_model.specs.contracts.verdict.Cycle as Cycle
 use Rattle.aero_model.specs.contracts.verdict.CycleStep as CycleStep
 use Rattle.aero_model.specs.contracts.verdict.Ending as Ending
 use Rattle.aero_model.specs.contracts.verdict.Finding as Finding
-use Rattle.aero_model.specs.contracts.verdict.Found as Found
+use Rattle.aero_intake.specs.contracts.found.Found as Found
 use Rattle.aero_model.specs.contracts.verdict.Step as Step
 use Rattle.aero_model.specs.contracts.verdict.Verdict as Verdict
 use Rattle.aero_intake.specs.contracts.source.SourceOf as SourceOf

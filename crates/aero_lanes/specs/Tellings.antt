@@ -2,7 +2,7 @@
 use Rattle.std.specs.Prelude.{◌≡◌, ℕ, ◌+◌, ◌<◌, ◌≤◌, Bool, true, false, List, [], ◌++◌, map, length, take, slice_get, vec_len, vec_capacity, Option, Some, None}
 use Rattle.std.specs.Prelude.{Result, Ok, Err}
 use Rattle.std.specs.Io.KnownBytes.{Appends}
-use Rattle.aero_model.specs.declared.verdict.Found as model
+use Rattle.aero_intake.specs.declared.found.Found as intake
 use Rattle.aero_model.specs.CallCounts.{Seen}
 use Rattle.aero_report.specs.declared.form.Form.{Form}
 use Rattle.aero_model.specs.Verdicts.{no_counts, total}
@@ -84,7 +84,7 @@ pub record StopsSo {R : Type 0} (known : R → Sight) (terms : Terms) (form : Fo
   pub written : IsWrittenSo known terms form origin seats founds before after cause
 
 -- what is told of a source whose lane has ended: where nothing was found memory was refused
-abbrev pub TellsEnd : Form → List ℕ → Option model.Found → Seen → Seen → Told → Told → Result Bool Cause → Type 0
+abbrev pub TellsEnd : Form → List ℕ → Option intake.Found → Seen → Seen → Told → Told → Result Bool Cause → Type 0
 TellsEnd form name (Some found) before after old new result = TellsFound form name found before after old new result
 TellsEnd form name None before after old new (Err Memory) = Took before after [] × (new ≡ old)
 TellsEnd form name None before after old new (Err Write) = ⊥

@@ -5,8 +5,7 @@ ghost use Rattle.aero_lanes.specs.Ends.{IsEndOf};
 
 use crate::shared::Shared;
 use aero_intake::alone::judge_source;
-use aero_intake::{Followed, Plan, SourceOf};
-use aero_model::Found;
+use aero_intake::{Followed, Found, Plan, SourceOf};
 use std::snapshot::Snapshot;
 use std::sync::Wait;
 use std::thread::Promise;

@@ -59,6 +59,6 @@ pub use name::{Name, NameFault};
 pub use numbered::{Numbered, What};
 pub use terms::Terms;
 pub use verdict::{
-    Counts, Cycle, CycleStep, CycleTransaction, Ending, Extent, Finding, Found, LineFault,
-    OpenBlock, ShapeFault, Step, Verdict,
+    Counts, Cycle, CycleStep, CycleTransaction, Ending, Extent, Finding, LineFault, OpenBlock,
+    ShapeFault, Step, Verdict,
 };

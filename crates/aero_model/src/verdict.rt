@@ -170,14 +170,6 @@ impl Finding {
     }
 }
 
-/// What is known of a source once its reading has ended: how many bytes came, how they ended, and what is said of them.
-#[derive(Drop)]
-pub struct Found {
-    pub bytes: u64,
-    pub ending: Ending,
-    pub finding: Finding,
-}
-
 /// How many sources were found to be what.
 #[derive(Clone, Copy, Debug, PartialEq, Eq)]
 pub struct Counts {

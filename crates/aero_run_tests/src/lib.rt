@@ -2,8 +2,8 @@
 //! crew, and reports.
 //!
 //! A crate with tests is proved twice, with them and without, so they stand here, above all of the
-//! crates, and each is proved once. A module has the tests of the crate that it is named for, and `alone` has those of
-//! `aero_intake::alone`. The crate has nothing for other crates.
+//! crates, and each is proved once. A module has the tests of the crate that it is named for, and `alone` and `survey` have
+//! those of these modules of `aero_intake`. The crate has nothing for other crates.
 #![tactic(auto)]
 
 #[cfg(test)]
@@ -20,5 +20,7 @@ mod pieces;
 mod report;
 #[cfg(test)]
 mod stage;
+#[cfg(test)]
+mod survey;
 #[cfg(test)]
 mod worker;

@@ -38,7 +38,7 @@ fn push_part(alloc: Global, parts: &mut Vec<Parsed>, block: &str) -> bool {
 }
 
 // The parts that blocks are, between which `;` stands.
-fn parts_of(alloc: Global, blocks: &str) -> Option<Vec<Parsed>> {
+pub(crate) fn parts_of(alloc: Global, blocks: &str) -> Option<Vec<Parsed>> {
     let mut parts = Vec::new(alloc);
     let mut fits = true;
     for block in blocks.split(';') {

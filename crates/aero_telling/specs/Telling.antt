@@ -2,7 +2,7 @@
 use Rattle.std.specs.Prelude.{◌≡◌, ℕ, ◌+◌, ◌<◌, Bool, true, false, List, [], ◌∷◌, ◌++◌, length, take, vec_len, vec_capacity, Option, None, Some, Result, Ok}
 use Rattle.std.specs.Prelude.{Err}
 use Rattle.std.specs.Io.KnownBytes.{Appends}
-use Rattle.aero_model.specs.declared.verdict.Found as model
+use Rattle.aero_intake.specs.declared.found.Found as intake
 use Rattle.aero_model.specs.CallCounts.{Seen}
 use Rattle.aero_model.specs.Verdicts.{counted, total}
 use Rattle.aero_report.specs.declared.form.Form.{Form}
@@ -39,7 +39,7 @@ SumsUp text None before after None = Took before after text
 SumsUp text None before after (Some why) = TellsText text before after (Err why)
 
 -- One more source is told, of which this was found.
-pub record IsOneMore (old new : Told) (found : model.Found) : Type 0 where
+pub record IsOneMore (old new : Told) (found : intake.Found) : Type 0 where
   pub endings : new.endings.items ≡ old.endings.items ++ (found.bytes, found.ending) ∷ []
   pub room : vec_capacity new.endings ≡ vec_capacity old.endings
   pub notables : new.notables.items ≡ old.notables.items ++ notable_of found.finding ∷ []
@@ -48,7 +48,7 @@ pub record IsOneMore (old new : Told) (found : model.Found) : Type 0 where
   pub counted_one : total new.counts ≡ total old.counts + 1
 
 -- The source of which this was found is told.
-abbrev pub TellsFound : Form → List ℕ → model.Found → Seen → Seen → Told → Told → Result Bool Cause → Type 0
+abbrev pub TellsFound : Form → List ℕ → intake.Found → Seen → Seen → Told → Told → Result Bool Cause → Type 0
 TellsFound form name f before after old new (Ok true) = Took before after (source_line_in form name f.finding) × IsOneMore old new f
 TellsFound form name f before after old new (Ok false) = ⊥
 TellsFound form name f before after old new (Err Memory) = Took before after [] × (new ≡ old)

@@ -8,7 +8,8 @@ ghost use Rattle.aero_telling.specs.Telling.{SumsUp, TellsFound, TellsText, HasR
 
 use crate::cause::Cause;
 use crate::notable::{Notable, notable_of};
-use aero_model::{Counting, Counts, Ending, Found};
+use aero_intake::Found;
+use aero_model::{Counting, Counts, Ending};
 use aero_report::{Form, Options, put, source_text, totals_text};
 use std::alloc::{AllocError, Global};
 use std::io::Write;
