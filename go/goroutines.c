@@ -125,7 +125,7 @@ static bool is_start(const struct goroutine *t, const struct code *function, str
     if (!before->is_start) return false;
     if (first->is & IS_WRAPPER) return aero_only_ends(call);
     if (t->depth > 1) return false;
-    if (aero_is_given_to(first->label->text, function->label->text)) return true;
+    if (aero_is_given_to(first->label, function->label)) return true;
     bool is_made = t->go && is_one_line(t->go, first) && (is_one_line(t->go, call) || is_one_line(t->go, function));
     return is_made && aero_only_ends(call);
 }

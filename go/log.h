@@ -44,6 +44,7 @@ struct numbers {
 struct label {
     char *text;
     uint32_t length;
+    uint32_t package;        /* the length of the path of its package */
     struct numbers objects;  /* that functions of this name have allocated */
     struct label *next;
 };
@@ -198,11 +199,11 @@ extern const int aero_writer_sem, aero_reader_sem;    /* where a RWMutex has the
 /* code.c */
 void aero_code_start(void (*callback)(word, void *), const word *g);
 struct code *aero_code(word at);
-struct label *aero_label(const char *text);
+struct label *aero_label(const char *name);     /* of the name in Go's tables */
 bool aero_is_of_library(const char *label);
 bool aero_is_init(const char *label);
 bool aero_is_wrapper(const char *label, const char *file);
-bool aero_is_given_to(const char *label, const char *value);    /* a function value of another package */
+bool aero_is_given_to(const struct label *starter, const struct label *value);    /* a function value of another package */
 /* Who asked, from the address on along the frames; *place is the first code that isn't of the runtime or of sync. */
 struct code *aero_asked(const struct here *here, word at, struct code **place);
 bool aero_is_within_wait(const struct here *here);   /* Cond.Wait */
@@ -227,6 +228,7 @@ bool aero_is_counter(word at);                 /* of go test -cover, and nothing
 int aero_each_function(bool (*each)(const char *label));     /* until it returns 0 */
 
 /* objects.c */
+char *aero_unescape(char *text);               /* turns the name in Go's tables into that of the log, and returns its end */
 bool aero_objects_start(void);                 /* whether there is room for them */
 void aero_allocated(const struct here *here, word at, word bytes);
 void aero_freed(word at, word bytes);
