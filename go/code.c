@@ -89,6 +89,8 @@ static const struct known {
     enum asker asker;
     unsigned is;
 } known[] = {
+    {"sync/atomic.(*Value).CompareAndSwap", VALUE, COMPARES},
+    {"sync/atomic.(*Value).Load", VALUE, LOADS},
     {"sync/atomic.(*Value).", VALUE, 0},
     {"sync/atomic.", HELPER, 0},
     {"runtime.race", HELPER, 0},
@@ -297,13 +299,13 @@ bool aero_is_within_wait(const struct here *here) {
 
 /* The runtime allocates for itself at the start. */
 struct label *aero_allocator(const struct here *here) {
+    static struct label *of_runtime;
     struct code *by = NULL;
     const word *frame = here->frame;
-    static struct label *of_runtime;
     word low = here->stack;
+    if (!of_runtime) of_runtime = aero_label("runtime");
     for (int level = 0; level < 8 && aero_is_frame(here, frame, low); level++) {
         by = aero_code(frame[1]);
-    if (!of_runtime) of_runtime = aero_label("runtime");
         if (!(by->is & IS_LOW)) break;
         low = (word)frame;
         frame = (const word *)frame[0];
