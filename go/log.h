@@ -112,11 +112,15 @@ struct sync {
     struct sync *sibling;    /* of the same object */
     uint64_t owner;          /* of a mutex: the id of the goroutine that has it, 0: nobody */
     uint32_t owner_number;
-    uint64_t sender;         /* of what is in the slot of a channel */
+    uint64_t sender;         /* of what is in the slot of a channel, or 0 */
+    uint64_t taker;          /* of the latest message of another goroutine in the slot of a channel, or 0 */
+    uint64_t closer;         /* of a channel */
     bool is_handed;          /* a mutex that another goroutine has unlocked */
     unsigned holders;        /* of a RWMutex, by the program */
     unsigned step;           /* of the steps that the runtime calls for one message */
     bool is_merged;          /* a WaitGroup in a round of Done */
+    bool is_by_several;      /* the round's Done are of several goroutines */
+    uint64_t doer;           /* of the round's first Done, or 0 */
     uint32_t slots;
     size_t count, room;
     struct release *releases;
@@ -224,12 +228,12 @@ void aero_leave_by_panic(struct goroutine *t, const struct here *here);
 void aero_symbols_start(void);
 bool aero_has_symbols(void);
 const char *aero_global(word at, word *start, word *end);    /* the global variable that has the byte, or NULL */
+char *aero_unescape(char *text);               /* turns the name in Go's tables into that of the log, and returns its end */
 const word *aero_word(const char *variable);   /* where the global variable of that name lies, or NULL */
 bool aero_is_counter(word at);                 /* of go test -cover, and nothing that the program itself has */
 int aero_each_function(bool (*each)(const char *label));     /* until it returns 0 */
 
 /* objects.c */
-char *aero_unescape(char *text);               /* turns the name in Go's tables into that of the log, and returns its end */
 bool aero_objects_start(void);                 /* whether there is room for them */
 void aero_allocated(const struct here *here, word at, word bytes);
 void aero_freed(word at, word bytes);

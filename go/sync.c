@@ -99,16 +99,20 @@ static void mutex(struct goroutine *t, word at, bool locks, const struct code *p
     s->owner_number = t->number;
 }
 
-/* Done merges, Wait acquires. The first Done behind a Wait begins another round. */
+/* Done merges, Wait acquires. The first Done behind a Wait begins another round. Who has made each Done of it itself waits for nobody. */
 static void wait_group(struct goroutine *t, const struct ordered *it) {
     struct sync *s = aero_sync(it->at);
     if (it->how == ACQUIRE) {
-        aero_waits(t);
+        if (s->doer && (s->doer != t->id || s->is_by_several)) aero_waits(t);
         aero_acquire(t, s, it->place);
         s->is_merged = false;
         return;
     }
-    if (!s->is_merged) s->count = 0;
+    if (!s->is_merged) {
+        s->count = 0;
+        s->doer = t->id;
+    }
+    s->is_by_several = s->is_merged && (s->is_by_several || s->doer != t->id);
     s->is_merged = true;
     aero_release(t, s, 1, it->place);
 }
