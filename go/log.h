@@ -118,6 +118,7 @@ struct sync {
     bool is_handed;          /* a mutex that another goroutine has unlocked */
     unsigned holders;        /* of a RWMutex, by the program */
     unsigned step;           /* of the steps that the runtime calls for one message */
+    uint64_t unlocker;       /* of a mutex that another goroutine had locked, or 0 */
     bool is_merged;          /* a WaitGroup in a round of Done */
     bool is_by_several;      /* the round's Done are of several goroutines */
     uint64_t doer;           /* of the round's first Done, or 0 */

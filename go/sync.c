@@ -86,13 +86,17 @@ void aero_acquire(struct goroutine *t, struct sync *s, const struct code *place)
 
 /* ---- sync's types */
 
-/* A lock as long as who has locked it unlocks it, and from then on a variable. */
+/* A lock as long as who has locked it unlocks it, and from then on a variable. Who locks what another goroutine has unlocked so waits for
+ * that one, as at a semaphore. */
 static void mutex(struct goroutine *t, word at, bool locks, const struct code *place) {
     struct sync *s = aero_sync(at);
-    if (!locks && s->owner != t->id) {
+    bool hands_on = !locks && s->owner != t->id;
+    if (hands_on) {
         release_for_owner(s);
         s->is_handed = true;
     }
+    if (locks && s->unlocker && s->unlocker != t->id) aero_waits(t);
+    s->unlocker = hands_on ? t->id : 0;
     if (s->is_handed) aero_suffixed(t, "w", at, &(struct suffix){".handed", -1, place});
     else aero_suffixed(t, locks ? "acq" : "rel", at, &(struct suffix){"", -1, place});
     s->owner = locks ? t->id : 0;
@@ -169,7 +173,7 @@ void aero_order(const struct here *here, struct goroutine *t, word at, enum orde
     const struct code *asker = aero_asked(here, *(const word *)here->stack, &place);
     const struct ordered it = {at, how, asker, place};
     aero_drop_dead(t, here, here->stack);
-    if (asker->asker == HELPER || asker->asker == NOBODY) return;
+    if (asker->asker == HELPER || asker->asker == NOBODY || (asker->asker == WAIT_GROUP && aero_is_quiet(t))) return;
     if (asker->asker == MUTEX) lock_or_unlock(t, &it);
     else if (asker->asker == READER || asker->asker == WRITER) read_or_write(t, &it);
     else if (asker->asker == WAIT_GROUP) wait_group(t, &it);

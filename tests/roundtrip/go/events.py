@@ -15,7 +15,7 @@ class Events:
     def __init__(self, program):
         self.program, self.puts, self.gets, self.once_done, self.sender = program, {}, {}, set(), {}
         self.dones, self.waited, self.tokens, self.handed, self.owner, self.sets = {}, set(), {}, set(), {}, {}
-        self.open_blocks, self.timers, self.taker, self.closer = {}, FIRST_TIMER - 1, {}, {}
+        self.open_blocks, self.timers, self.taker, self.closer, self.unlocker = {}, FIRST_TIMER - 1, {}, {}, {}
         self.splits = program.settings.get("AERODROME_SPLIT", "waits").split(",")
 
     def all(self):
@@ -89,15 +89,19 @@ class Events:
 
     def of_lock(self, step):
         self.owner[step.target] = step.thread
-        return [self.as_variable(step) or ("acq", step.target)]
+        events = [self.as_variable(step) or ("acq", step.target)]
+        return self.waits(step, events) if self.unlocker.pop(step.target, step.thread) != step.thread else events
 
     def of_unlock(self, step):
         owner, event = self.owner[step.target], self.as_variable(step)
         if event:
+            if owner != step.thread and event[1].endswith(".handed"):
+                self.unlocker[step.target] = step.thread
             return [event]
         if owner == step.thread:
             return [("rel", step.target)]
         self.handed.add(step.target)
+        self.unlocker[step.target] = step.thread
         return [("rel", step.target, owner), ("w", step.target + ".handed")]
 
     def of_rel(self, step):

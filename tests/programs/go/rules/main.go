@@ -136,6 +136,8 @@ func changeRW(n int64)  { rw.Lock(); shared.a = n; rw.Unlock() }
 func locksIt()          { mu.Lock(); shared.a++; mark(0) }
 func unlocksIt()        { after(0); shared.b++; mu.Unlock() }
 func incr()             { mu.Lock(); shared.a++; mu.Unlock() }
+func waitsByLock()      { mu.Lock(); go locksOn(); mu.Lock(); mu.Unlock() }
+func locksOn()          { shared.a++; mu.Unlock() }
 func unlockLater()      { mu.Lock(); shared.a++; time.AfterFunc(0, mu.Unlock) }
 func tries() {
 	if mu.TryLock() {
@@ -675,6 +677,7 @@ var words = map[string]func(){
 	"locks":          crosses(func() { locked(func() { shared.a++ }) }),
 	"lock-follows":   follows(func() { locked(func() {}) }, func() { locked(func() {}) }),
 	"handed":         func() { both(locksIt, unlocksIt); both(incr, incr) },
+	"waits-by-lock":  waitsByLock,
 	"tries":          func() { both(tries, func() {}) },
 	"unlocked-later": func() { unlockLater(); both(incr, incr) },
 	"readers":        func() { both(readHeld, readMeanwhile) },
