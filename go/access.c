@@ -140,7 +140,7 @@ static const struct code *outside(const struct goroutine *t, const struct code *
 /* Whether a function of the library is at work that has no events, perhaps by another one of the library. */
 bool aero_is_quiet(const struct goroutine *t) {
     for (size_t depth = t->depth; depth-- > 0 && (t->frames[depth].function->is & IS_LIBRARY);)
-        if (t->frames[depth].function->is & IS_QUIET) return true;
+        if (t->frames[depth].is_quiet || (t->frames[depth].function->is & IS_QUIET)) return true;
     return false;
 }
 

@@ -140,6 +140,9 @@ static const struct known {
     /* What orders only lines of output, or numbers that are drawn. */
     {"log.", PROGRAM, IS_QUIET},
     {"math/rand.(*lockedSource).", PROGRAM, IS_QUIET},
+    /* What finds out about a type, and keeps it. The literal in it encodes. */
+    {"encoding/json.typeEncoder.func", PROGRAM, 0},
+    {"encoding/json.typeEncoder", PROGRAM, IS_QUIET},
     {"", PROGRAM, 0},
 };
 

@@ -79,6 +79,7 @@ struct frame {
     struct code *function, *call;
     enum block_state block;
     bool is_start;           /* of what the goroutine starts with */
+    bool is_quiet;           /* a Once of the library calls it */
 };
 /* A goroutine, or the timers of a processor: a racectx of the runtime. */
 struct goroutine {
@@ -96,6 +97,7 @@ struct goroutine {
     int half;                /* within RWMutex.Lock, which acquires twice */
     word boxed;              /* the atomic.Value whose first word it has touched */
     bool is_boxing;          /* it has taken that word, for the first store */
+    bool is_own_once;        /* the Once that it has found undone is the library's */
     struct code *go;         /* the go statement */
 };
 
@@ -116,9 +118,9 @@ struct sync {
     uint64_t taker;          /* of the latest message of another goroutine in the slot of a channel, or 0 */
     uint64_t closer;         /* of a channel */
     bool is_handed;          /* a mutex that another goroutine has unlocked */
+    uint64_t unlocker;       /* of a mutex that another goroutine had locked, or 0 */
     unsigned holders;        /* of a RWMutex, by the program */
     unsigned step;           /* of the steps that the runtime calls for one message */
-    uint64_t unlocker;       /* of a mutex that another goroutine had locked, or 0 */
     bool is_merged;          /* a WaitGroup in a round of Done */
     bool is_by_several;      /* the round's Done are of several goroutines */
     uint64_t doer;           /* of the round's first Done, or 0 */

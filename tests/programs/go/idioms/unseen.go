@@ -2,6 +2,10 @@
 package main
 
 import (
+	"encoding/json"
+	"hash/crc32"
+	"html"
+	"reflect"
 	"sync"
 	"sync/atomic"
 	"time"
@@ -77,8 +81,36 @@ var (
 func writeAhead()  { ahead = 1; mark(0); after(1); twins.b = 2 }
 func writeBehind() { after(0); twins.a = int32(ahead); mark(1) }
 
+// The library makes two tables when they are needed first. Each function runs one of the two, and finds the other one made.
+func sumThenText() { crc32.ChecksumIEEE(nil); mark(0); after(1); html.UnescapeString("&lt;") }
+func sumAndText()  { after(0); crc32.ChecksumIEEE(nil); html.UnescapeString("&lt;"); mark(1) }
+
+// The library keeps what it has found out about types, of which several goroutines need a new one at once.
+type nothing struct{}
+
+func encodeTwice(v any) { json.Marshal(v); json.Marshal(v) }
+func encodeAll(start chan bool, all *sync.WaitGroup) {
+	<-start
+	for i := 1; i < 60; i++ {
+		encodeTwice(reflect.New(reflect.ArrayOf(i, reflect.TypeOf(nothing{}))).Interface())
+	}
+	all.Done()
+}
+func encodes() {
+	start := make(chan bool)
+	var all sync.WaitGroup
+	for i := 0; i < 8; i++ {
+		all.Add(1)
+		go encodeAll(start, &all)
+	}
+	close(start)
+	all.Wait()
+}
+
 func init() {
 	for word, run := range map[string]func(){
+		"library-once":       func() { both(sumThenText, sumAndText) },
+		"library-types":      encodes,
 		"promoted-starts":    promotedStarts,
 		"unlocked-by-timer":  unlocksLater,
 		"init-method-splits": initMethod,
