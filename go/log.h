@@ -118,7 +118,8 @@ struct sync {
     uint64_t taker;          /* of the latest message of another goroutine in the slot of a channel, or 0 */
     uint64_t closer;         /* of a channel */
     bool is_handed;          /* a mutex that another goroutine has unlocked */
-    uint64_t unlocker;       /* of a mutex that another goroutine had locked, or 0 */
+    uint64_t unlocker;       /* of a mutex, or a RWMutex for writing, that another goroutine had locked, or 0 */
+    uint64_t writer;         /* who has locked a RWMutex for writing latest */
     unsigned holders;        /* of a RWMutex, by the program */
     unsigned step;           /* of the steps that the runtime calls for one message */
     bool is_merged;          /* a WaitGroup in a round of Done */

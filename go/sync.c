@@ -86,8 +86,12 @@ void aero_acquire(struct goroutine *t, struct sync *s, const struct code *place)
 
 /* ---- sync's types */
 
-/* A lock as long as who has locked it unlocks it, and from then on a variable. Who locks what another goroutine has unlocked so waits for
- * that one, as at a semaphore. */
+/* Who locks what another goroutine has unlocked, and hadn't locked, waits for that one, as at a semaphore. */
+static void wait_for_unlocker(struct goroutine *t, const struct sync *s, bool locks) {
+    if (locks && s->unlocker && s->unlocker != t->id) aero_waits(t);
+}
+
+/* A lock as long as who has locked it unlocks it, and from then on a variable. */
 static void mutex(struct goroutine *t, word at, bool locks, const struct code *place) {
     struct sync *s = aero_sync(at);
     bool hands_on = !locks && s->owner != t->id;
@@ -95,7 +99,7 @@ static void mutex(struct goroutine *t, word at, bool locks, const struct code *p
         release_for_owner(s);
         s->is_handed = true;
     }
-    if (locks && s->unlocker && s->unlocker != t->id) aero_waits(t);
+    wait_for_unlocker(t, s, locks);
     s->unlocker = hands_on ? t->id : 0;
     if (s->is_handed) aero_suffixed(t, "w", at, &(struct suffix){".handed", -1, place});
     else aero_suffixed(t, locks ? "acq" : "rel", at, &(struct suffix){"", -1, place});
@@ -152,6 +156,9 @@ static void read_or_write(struct goroutine *t, const struct ordered *it) {
     if (!s->holders && is_own_lock(it)) return;
     if (locks) s->holders++;
     else if (s->holders) s->holders--;
+    wait_for_unlocker(t, s, locks);
+    if (writes && !locks) s->unlocker = s->writer == t->id ? 0 : t->id;
+    if (writes && locks) s->writer = t->id;
     aero_suffixed(t, writes ? "w" : "r", s->at, &(struct suffix){".rw", -1, it->place});
 }
 

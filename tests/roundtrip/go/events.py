@@ -90,13 +90,15 @@ class Events:
     def of_lock(self, step):
         self.owner[step.target] = step.thread
         events = [self.as_variable(step) or ("acq", step.target)]
-        return self.waits(step, events) if self.unlocker.pop(step.target, step.thread) != step.thread else events
+        return self.waits(step, events) if self.unlocker.get(step.target, step.thread) != step.thread else events
 
     def of_unlock(self, step):
         owner, event = self.owner[step.target], self.as_variable(step)
         if event:
-            if owner != step.thread and event[1].endswith(".handed"):
+            if owner != step.thread and event[0] == "w":
                 self.unlocker[step.target] = step.thread
+            elif event[0] == "w":
+                self.unlocker.pop(step.target, None)
             return [event]
         if owner == step.thread:
             return [("rel", step.target)]

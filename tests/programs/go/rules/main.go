@@ -137,6 +137,9 @@ func locksIt()          { mu.Lock(); shared.a++; mark(0) }
 func unlocksIt()        { after(0); shared.b++; mu.Unlock() }
 func incr()             { mu.Lock(); shared.a++; mu.Unlock() }
 func waitsByLock()      { mu.Lock(); go locksOn(); mu.Lock(); mu.Unlock() }
+func waitsByWriter()    { rw.Lock(); go writesOn(); rw.Lock(); rw.Unlock() }
+func waitsByReader()    { rw.Lock(); go writesOn(); rw.RLock(); rw.RUnlock() }
+func writesOn()         { shared.a++; rw.Unlock() }
 func locksOn()          { shared.a++; mu.Unlock() }
 func unlockLater()      { mu.Lock(); shared.a++; time.AfterFunc(0, mu.Unlock) }
 func tries() {
@@ -668,25 +671,27 @@ func collected() {
 }
 
 var words = map[string]func(){
-	"neighbours":     func() { both(lowTwice, highTwice) },
-	"copied":         func() { both(copyBack, addToB) },
-	"copied-known":   copiedKnown,
-	"copied-halves":  func() { both(lowOne, highOne) },
-	"map-access":     splits(lookAtMap, changeMap),
-	"stacks":         stacks,
-	"locks":          crosses(func() { locked(func() { shared.a++ }) }),
-	"lock-follows":   follows(func() { locked(func() {}) }, func() { locked(func() {}) }),
-	"handed":         func() { both(locksIt, unlocksIt); both(incr, incr) },
-	"waits-by-lock":  waitsByLock,
-	"tries":          func() { both(tries, func() {}) },
-	"unlocked-later": func() { unlockLater(); both(incr, incr) },
-	"readers":        func() { both(readHeld, readMeanwhile) },
-	"readers-cross":  crosses(readLocked),
-	"writer-splits":  splits(lookRW, changeRW),
-	"reader-follows": follows(func() { rw.Lock(); rw.Unlock() }, func() { rw.RLock(); rw.RUnlock() }),
-	"writer-follows": follows(func() { rw.RLock(); rw.RUnlock() }, func() { rw.Lock(); rw.Unlock() }),
-	"done-cross":     func() { group.Add(4); crosses(func() { group.Done() })() },
-	"wait-follows":   func() { group.Add(1); follows(func() { group.Done() }, func() { group.Wait() })() },
+	"neighbours":      func() { both(lowTwice, highTwice) },
+	"copied":          func() { both(copyBack, addToB) },
+	"copied-known":    copiedKnown,
+	"copied-halves":   func() { both(lowOne, highOne) },
+	"map-access":      splits(lookAtMap, changeMap),
+	"stacks":          stacks,
+	"locks":           crosses(func() { locked(func() { shared.a++ }) }),
+	"lock-follows":    follows(func() { locked(func() {}) }, func() { locked(func() {}) }),
+	"handed":          func() { both(locksIt, unlocksIt); both(incr, incr) },
+	"waits-by-lock":   waitsByLock,
+	"waits-by-writer": waitsByWriter,
+	"waits-by-reader": waitsByReader,
+	"tries":           func() { both(tries, func() {}) },
+	"unlocked-later":  func() { unlockLater(); both(incr, incr) },
+	"readers":         func() { both(readHeld, readMeanwhile) },
+	"readers-cross":   crosses(readLocked),
+	"writer-splits":   splits(lookRW, changeRW),
+	"reader-follows":  follows(func() { rw.Lock(); rw.Unlock() }, func() { rw.RLock(); rw.RUnlock() }),
+	"writer-follows":  follows(func() { rw.RLock(); rw.RUnlock() }, func() { rw.Lock(); rw.Unlock() }),
+	"done-cross":      func() { group.Add(4); crosses(func() { group.Done() })() },
+	"wait-follows":    func() { group.Add(1); follows(func() { group.Done() }, func() { group.Wait() })() },
 	"wait-two-follows": func() {
 		group.Add(2)
 		follows(func() { group.Done() }, func() { group.Done(); group.Wait() })()
