@@ -51,12 +51,8 @@ static bool second_word_counts(const struct goroutine *t, const struct atomic *i
     return !t->is_boxing && !(it->is_load && (it->asker->is & COMPARES));
 }
 
-/* Returns whether a Once is a global variable of the standard library, which makes there what it needs, once for the program. Another Once of the
- * library may be the program's, as that of an io.Pipe. */
-static bool is_own_once(const struct atomic *it) {
-    word start, end;
-    return it->asker->asker == ONCE && (it->place->is & IS_LIBRARY) && aero_global(it->at, &start, &end);
-}
+/* Returns whether a Once is one of the standard library, which makes there what it needs. */
+static bool is_own_once(const struct atomic *it) { return it->asker->asker == ONCE && (it->place->is & IS_LIBRARY); }
 
 void aero_atomic(struct goroutine *t, const struct atomic *it) {
     struct atomic event = *it;

@@ -140,9 +140,22 @@ static const struct known {
     /* What orders only lines of output, or numbers that are drawn. */
     {"log.", PROGRAM, IS_QUIET},
     {"math/rand.(*lockedSource).", PROGRAM, IS_QUIET},
-    /* What finds out about a type, and keeps it. The literal in it encodes. */
+    /* What finds out about a type or makes one, and keeps it. The literal in typeEncoder encodes. */
     {"encoding/json.typeEncoder.func", PROGRAM, 0},
     {"encoding/json.typeEncoder", PROGRAM, IS_QUIET},
+    {"encoding/json.cachedTypeFields", PROGRAM, IS_QUIET},
+    {"encoding/xml.getTypeInfo", PROGRAM, IS_QUIET},
+    {"encoding/gob.validUserType", PROGRAM, IS_QUIET},
+    {"encoding/gob.getTypeInfo", PROGRAM, IS_QUIET},
+    {"encoding/gob.getEncEngine", PROGRAM, IS_QUIET},
+    {"reflect.(*rtype).ptrTo", PROGRAM, IS_QUIET},
+    {"reflect.funcLayout", PROGRAM, IS_QUIET},
+    {"reflect.FuncOf", PROGRAM, IS_QUIET},
+    {"reflect.MapOf", PROGRAM, IS_QUIET},
+    {"reflect.SliceOf", PROGRAM, IS_QUIET},
+    {"reflect.ArrayOf", PROGRAM, IS_QUIET},
+    {"reflect.ChanOf", PROGRAM, IS_QUIET},
+    {"reflect.StructOf", PROGRAM, IS_QUIET},
     {"", PROGRAM, 0},
 };
 

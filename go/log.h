@@ -271,6 +271,7 @@ struct access {
     const char *operation;
     word at, bytes;          /* bytes: 0: a single access, of any size */
     word code;
+    word within;             /* the function of the runtime that accesses, as closechan, or 0 */
 };
 /* What follows the name of a variable. */
 struct suffix {
