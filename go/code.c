@@ -137,8 +137,12 @@ static const struct known {
     {"internal/poll.", NOBODY, 0},
     {"time.", GENERIC, 0},
     {"os.Exit", PROGRAM, ENDS_PROGRAM},
-    /* What orders only lines of output, or numbers that are drawn. */
+    /* What orders only lines of output, or numbers that are drawn, or has a test fail. */
     {"log.", PROGRAM, IS_QUIET},
+    {"testing.(*common).log", PROGRAM, IS_QUIET},
+    {"testing.(*common).Helper", PROGRAM, IS_QUIET},
+    {"testing.(*common).Fail", PROGRAM, IS_QUIET},
+    {"testing.(*common).Skip", PROGRAM, IS_QUIET},
     {"math/rand.(*lockedSource).", PROGRAM, IS_QUIET},
     /* What finds out about a type or makes one, and keeps it. The literal in typeEncoder encodes. */
     {"encoding/json.typeEncoder.func", PROGRAM, 0},
