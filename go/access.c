@@ -137,10 +137,13 @@ static const struct code *outside(const struct goroutine *t, const struct code *
     return code;
 }
 
-/* Whether a function of the library is at work that has no events, perhaps by another one of the library. */
+/* Whether the access is to a channel, as a whole: it is closed, or looked at by who sends. */
+static bool is_of_channel(const struct access *it) { return it->within && aero_code(it->within)->asker >= CHANNEL_SEND; }
+
+/* Whether a function of the library is at work whose accesses and atomic operations have no events, perhaps by another one of the library. */
 bool aero_is_quiet(const struct goroutine *t) {
     for (size_t depth = t->depth; depth-- > 0 && (t->frames[depth].function->is & IS_LIBRARY);)
-        if (t->frames[depth].function->is & IS_QUIET) return true;
+        if (t->frames[depth].is_quiet || (t->frames[depth].function->is & IS_QUIET)) return true;
     return false;
 }
 
@@ -150,7 +153,7 @@ void aero_access(const struct here *here, struct goroutine *t, const struct acce
     aero_drop_dead(t, here, here->stack);
     const struct code *place = outside(t, code);
     if (((code->is | place->is) & IS_SYNC) || ((code->is & IS_RACE) && !it->bytes) || is_local(t, it->at)) return;
-    if (aero_is_quiet(t) || aero_is_counter(it->at)) return;
+    if ((aero_is_quiet(t) && !is_of_channel(it)) || aero_is_counter(it->at)) return;
     if (aero_settings.grain) grains(t, it->operation, it->at, it->bytes ? it->bytes : 1, place);
     else if (it->bytes) range(t, it->operation, it->at, it->bytes, place);
     else single(t, it->operation, it->at, place);

@@ -57,19 +57,24 @@ static void token(struct goroutine *t, const struct ordered *it, bool is_sent) {
     memmove(&s->releases[one], &s->releases[one + 1], (--s->count - one) * sizeof *s->releases);
 }
 
-/* A slot is as a lock: send k, receive k and send k + slots come in this order. Who takes back what it has sent itself, as who gives
- * back a semaphore, waits for nobody. Where only the channel is known it has one slot. */
-static void slot(struct goroutine *t, const struct ordered *it, const struct channel *channel) {
-    bool is_sent = sends(it, channel);
-    struct sync *s = aero_sync(it->at);
-    if (!is_sent && s->sender != t->id) aero_waits(t);
+/* Returns whether a message waits for another goroutine: for the sender of what is received, or for the receiver that has made room for
+ * what is sent. Who takes back its own message, as who gives back a semaphore, waits for nobody, nor does who sends next. */
+static bool waits_at(struct sync *s, const struct goroutine *t, bool is_sent) {
+    uint64_t other = is_sent ? s->taker : s->sender;
+    if (!is_sent) s->taker = s->sender == t->id ? 0 : t->id;
     s->sender = is_sent ? t->id : 0;
+    return is_sent ? other && other != t->id : other != t->id;
+}
+
+/* A slot is as a lock: send k, receive k and send k + slots come in this order. Where only the channel is known it has one slot. */
+static void slot(struct goroutine *t, const struct ordered *it, const struct channel *channel) {
+    if (waits_at(aero_sync(it->at), t, sends(it, channel))) aero_waits(t);
     aero_suffixed(t, "w", it->at, &(struct suffix){"~", channel ? 0 : -1, it->place});
 }
 
-/* A close has written the channel. */
+/* A close has written the channel. Who has closed it waits for nobody. */
 static void found_closed(struct goroutine *t, const struct ordered *it) {
-    aero_waits(t);
+    if (aero_sync(it->at)->closer != t->id) aero_waits(t);
     aero_event(t, "r", it->at, it->place);
 }
 
@@ -93,6 +98,7 @@ static void by_channel(struct goroutine *t, const struct ordered *it) {
 void aero_channel(struct goroutine *t, const struct ordered *it) {
     if (it->asker->asker == CHANNEL_CLOSE) {
         if (it->how == ACQUIRE) found_closed(t, it);
+        else aero_sync(it->at)->closer = t->id;
     } else if (it->how == RELEASE_ACQUIRE) slot(t, it, NULL);
     else by_channel(t, it);
 }

@@ -46,15 +46,34 @@ static bool is_made_by_compiler(const char *label, const char *file) {
     return made && begins(made, "-range") && made[6] && !made[6 + strspn(made + 6, "0123456789")];
 }
 
+/* Returns whether the name is the function's, `plain` as the log has it or `label` as Go's tables have it (aero_unescape). */
+static bool is_name_of(const struct name *name, const char *plain, const char *label) {
+    return matches(name->text, name->length, plain) || matches(name->text, name->length, label);
+}
+
+/* Returns a copy of the name as the log has it, but not shortened. */
+static char *plain_name(const char *label) {
+    char *plain = strcpy(aero_new(strlen(label) + 1), label);
+    aero_unescape(plain);
+    return plain;
+}
+
+/* Returns whether the list makes the function a block, or `block` if the list doesn't have it. */
+static bool is_chosen(const char *label, bool block) {
+    char *plain = plain_name(label);
+    bool is_left_out = false;
+    for (size_t one = 0; one < name_count && !is_left_out; one++)
+        if (is_name_of(&names[one], plain, label)) {
+            is_left_out = names[one].leaves_out;
+            block = !is_left_out;
+        }
+    free(plain);
+    return block;
+}
+
 bool aero_is_block(const char *label, const char *file) {
     if (begins(label, "runtime.") || begins(label, "internal/race.") || is_made_by_compiler(label, file)) return false;
-    bool block = base == ALL || (base == USUAL && is_usual(label, file));
-    for (size_t one = 0; one < name_count; one++)
-        if (matches(names[one].text, names[one].length, label)) {
-            block = !names[one].leaves_out;
-            if (!block) break;
-        }
-    return block;
+    return is_chosen(label, base == ALL || (base == USUAL && is_usual(label, file)));
 }
 
 /* ---- names of a list */
@@ -72,11 +91,13 @@ static void take_names(const char *list, bool all_leave_out) {
 static bool has_plugins;
 static bool find_names(const char *label) {
     size_t found = 0;
+    char *plain = plain_name(label);
     has_plugins |= !strcmp(label, "plugin.Open");
     for (size_t one = 0; one < name_count; one++) {
-        if (!names[one].is_found) names[one].is_found = matches(names[one].text, names[one].length, label);
+        if (!names[one].is_found) names[one].is_found = is_name_of(&names[one], plain, label);
         found += names[one].is_found != 0;
     }
+    free(plain);
     return found < name_count;
 }
 

@@ -21,28 +21,15 @@ static uint32_t hash_of(const char *text) {
 /* The byte, or ! for one that the format doesn't have in a name. */
 static char fitting(char byte) { return byte == '|' || (unsigned char)byte < ' ' || byte == 127 ? '!' : byte; }
 
-/* A copy of the text; a long one has ... in the place of its middle. */
-static char *copy(const char *text, size_t most) {
+/* Copies the text, of which a long one has ... in the place of its middle. */
+static void copy(char *made, const char *text, size_t most) {
     static const char dots[] = "...";
     size_t length = strlen(text), head = length > most ? (most - 3) / 2 : length, tail = length > most ? most - 3 - head : 0;
-    char *made = aero_new(head + tail + 4), *to = made;
-    to = mempcpy(to, text, head);
-    if (tail) to = aero_put(aero_put(to, dots), text + length - tail);
+    char *to = mempcpy(made, text, head);
+    if (tail) to = mempcpy(aero_put(to, dots), text + length - tail, tail);
+    *to = 0;
     for (char *at = made; *at; at++) *at = fitting(*at);
-    return made;
 }
-
-struct label *aero_label(const char *text) {
-    struct label **slot = &labels[hash_of(text) % (sizeof labels / sizeof *labels)], *it = *slot;
-    while (it && strcmp(it->text, text)) it = it->next;
-    if (it) return it;
-    it = aero_new(sizeof *it);
-    *it = (struct label){.text = copy(text, MOST_NAME), .next = *slot};
-    it->length = (uint32_t)strlen(it->text);
-    return *slot = it;
-}
-
-/* ---- the standard library, which is known by the names of its packages: -trimpath takes its folder out of its files' names */
 
 static size_t package_length(const char *label) {
     size_t length = strcspn(label, "["), slash = length;
@@ -50,6 +37,21 @@ static size_t package_length(const char *label) {
     const char *dot = memchr(label + slash, '.', length - slash);
     return dot ? (size_t)(dot - label) : 0;
 }
+
+struct label *aero_label(const char *name) {
+    char text[MOST_NAME + 1], package[MOST_NAME + 1];
+    copy(text, name, MOST_NAME);
+    snprintf(package, sizeof package, "%.*s", (int)package_length(text), text);
+    size_t length = (size_t)(aero_unescape(text) - text);
+    struct label **slot = &labels[hash_of(text) % (sizeof labels / sizeof *labels)], *it = *slot;
+    while (it && strcmp(it->text, text)) it = it->next;
+    if (it) return it;
+    it = aero_new(sizeof *it);
+    *it = (struct label){strdup(text), (uint32_t)length, (uint32_t)(aero_unescape(package) - package), .next = *slot};
+    return *slot = it;
+}
+
+/* ---- the standard library, which is known by the names of its packages: -trimpath takes its folder out of its files' names */
 
 bool aero_is_of_library(const char *label) {
     char wanted[256];
@@ -72,11 +74,10 @@ bool aero_is_wrapper(const char *label, const char *file) {
 }
 
 /* A literal is called main.main.func1, or .func1.2 within another one. Only by a value a function of another package calls it. */
-bool aero_is_given_to(const char *label, const char *value) {
-    size_t length = package_length(value);
-    const char *literal = strstr(value + length, ".func");
-    bool is_value = (literal && literal[5] >= '0' && literal[5] <= '9') || aero_ends_with(value, "-fm");
-    return is_value && (length != package_length(label) || strncmp(label, value, length) != 0);
+bool aero_is_given_to(const struct label *starter, const struct label *value) {
+    const char *literal = strstr(value->text + value->package, ".func");
+    bool is_value = (literal && literal[5] >= '0' && literal[5] <= '9') || aero_ends_with(value->text, "-fm");
+    return is_value && (value->package != starter->package || strncmp(starter->text, value->text, value->package) != 0);
 }
 
 /* ---- who asks */
@@ -88,6 +89,8 @@ static const struct known {
     enum asker asker;
     unsigned is;
 } known[] = {
+    {"sync/atomic.(*Value).CompareAndSwap", VALUE, COMPARES},
+    {"sync/atomic.(*Value).Load", VALUE, LOADS},
     {"sync/atomic.(*Value).", VALUE, 0},
     {"sync/atomic.", HELPER, 0},
     {"runtime.race", HELPER, 0},
@@ -134,9 +137,29 @@ static const struct known {
     {"internal/poll.", NOBODY, 0},
     {"time.", GENERIC, 0},
     {"os.Exit", PROGRAM, ENDS_PROGRAM},
-    /* What orders only lines of output, or numbers that are drawn. */
+    /* What orders only lines of output, or numbers that are drawn, or has a test fail. */
     {"log.", PROGRAM, IS_QUIET},
+    {"testing.(*common).log", PROGRAM, IS_QUIET},
+    {"testing.(*common).Helper", PROGRAM, IS_QUIET},
+    {"testing.(*common).Fail", PROGRAM, IS_QUIET},
+    {"testing.(*common).Skip", PROGRAM, IS_QUIET},
     {"math/rand.(*lockedSource).", PROGRAM, IS_QUIET},
+    /* What finds out about a type or makes one, and keeps it. The literal in typeEncoder encodes. */
+    {"encoding/json.typeEncoder.func", PROGRAM, 0},
+    {"encoding/json.typeEncoder", PROGRAM, IS_QUIET},
+    {"encoding/json.cachedTypeFields", PROGRAM, IS_QUIET},
+    {"encoding/xml.getTypeInfo", PROGRAM, IS_QUIET},
+    {"encoding/gob.validUserType", PROGRAM, IS_QUIET},
+    {"encoding/gob.getTypeInfo", PROGRAM, IS_QUIET},
+    {"encoding/gob.getEncEngine", PROGRAM, IS_QUIET},
+    {"reflect.(*rtype).ptrTo", PROGRAM, IS_QUIET},
+    {"reflect.funcLayout", PROGRAM, IS_QUIET},
+    {"reflect.FuncOf", PROGRAM, IS_QUIET},
+    {"reflect.MapOf", PROGRAM, IS_QUIET},
+    {"reflect.SliceOf", PROGRAM, IS_QUIET},
+    {"reflect.ArrayOf", PROGRAM, IS_QUIET},
+    {"reflect.ChanOf", PROGRAM, IS_QUIET},
+    {"reflect.StructOf", PROGRAM, IS_QUIET},
     {"", PROGRAM, 0},
 };
 
@@ -193,13 +216,12 @@ static void tell_of_plugins(const char *name) {
 }
 
 static void set_place(struct code *it, const struct context *found) {
-    char text[MOST_PLACE + 40];
+    char text[MOST_PLACE + 40], file[MOST_PLACE + 1];
     const char *slash = strrchr(found->file, '/');
-    char *file = copy(slash ? slash + 1 : found->file, MOST_PLACE);
+    copy(file, slash ? slash + 1 : found->file, MOST_PLACE);
     free(it->place);
     if (aero_settings.places) snprintf(text, sizeof text, "|%s:%d", file, (int)found->line);
     else strcpy(text, "|");
-    free(file);
     it->place = strdup(text);
     it->place_length = (uint32_t)strlen(text);
     it->line = (int)found->line;
@@ -297,14 +319,16 @@ bool aero_is_within_wait(const struct here *here) {
 
 /* The runtime allocates for itself at the start. */
 struct label *aero_allocator(const struct here *here) {
+    static struct label *of_runtime;
     struct code *by = NULL;
     const word *frame = here->frame;
     word low = here->stack;
+    if (!of_runtime) of_runtime = aero_label("runtime");
     for (int level = 0; level < 8 && aero_is_frame(here, frame, low); level++) {
         by = aero_code(frame[1]);
         if (!(by->is & IS_LOW)) break;
         low = (word)frame;
         frame = (const word *)frame[0];
     }
-    return by && !(by->is & IS_LOW) ? by->label : aero_label("runtime");
+    return by && !(by->is & IS_LOW) ? by->label : of_runtime;
 }

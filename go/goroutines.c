@@ -125,7 +125,7 @@ static bool is_start(const struct goroutine *t, const struct code *function, str
     if (!before->is_start) return false;
     if (first->is & IS_WRAPPER) return aero_only_ends(call);
     if (t->depth > 1) return false;
-    if (aero_is_given_to(first->label->text, function->label->text)) return true;
+    if (aero_is_given_to(first->label, function->label)) return true;
     bool is_made = t->go && is_one_line(t->go, first) && (is_one_line(t->go, call) || is_one_line(t->go, function));
     return is_made && aero_only_ends(call);
 }
@@ -138,7 +138,8 @@ void aero_enter(const struct here *here, struct goroutine *t, word call_ends) {
     if (call->is & PANICS) aero_leave_by_panic(t, here);
     if (t->depth == t->room) t->frames = aero_more(t->frames, sizeof *t->frames, &t->room);
     bool starts = is_start(t, function, call), is_block = (function->is & IS_BLOCK) && (aero_starts_are_blocks() || !starts);
-    t->frames[t->depth++] = (struct frame){here->g[1] - stack, function, call, is_block ? WAITING : NO_BLOCK, starts};
+    bool is_quiet = call->asker == ONCE && t->is_own_once;
+    t->frames[t->depth++] = (struct frame){here->g[1] - stack, function, call, is_block ? WAITING : NO_BLOCK, starts, is_quiet};
     /* Ends the blocks for good, because os.Exit doesn't return. (In a test os.Exit(0) panics instead, and the blocks end there too.) */
     if (function->is & ENDS_PROGRAM) aero_split(t, false);
 }

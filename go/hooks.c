@@ -43,28 +43,28 @@ static void accessed(place_t here, struct goroutine *t, const struct access *it)
 ENTRY(__tsan_read, aero_hook_read)
 void aero_hook_read(struct goroutine *t, word at, word code, word u, place_t here) {
     (void)u;
-    accessed(here, t, &(struct access){"r", at, 0, code});
+    accessed(here, t, &(struct access){"r", at, 0, code, 0});
 }
 ENTRY(__tsan_write, aero_hook_write)
 void aero_hook_write(struct goroutine *t, word at, word code, word u, place_t here) {
     (void)u;
-    accessed(here, t, &(struct access){"w", at, 0, code});
+    accessed(here, t, &(struct access){"w", at, 0, code, 0});
 }
 ENTRY(__tsan_read_pc, aero_hook_read_pc)
 void aero_hook_read_pc(struct goroutine *t, word at, word call, word code, place_t here) {
-    accessed(here, t, &(struct access){"r", at, 0, call ? call : code});
+    accessed(here, t, &(struct access){"r", at, 0, call ? call : code, code});
 }
 ENTRY(__tsan_write_pc, aero_hook_write_pc)
 void aero_hook_write_pc(struct goroutine *t, word at, word call, word code, place_t here) {
-    accessed(here, t, &(struct access){"w", at, 0, call ? call : code});
+    accessed(here, t, &(struct access){"w", at, 0, call ? call : code, code});
 }
 ENTRY(__tsan_read_range, aero_hook_read_range)
 void aero_hook_read_range(struct goroutine *t, word at, word bytes, word code, place_t here) {
-    if (bytes) accessed(here, t, &(struct access){"r", at, bytes, code});
+    if (bytes) accessed(here, t, &(struct access){"r", at, bytes, code, 0});
 }
 ENTRY(__tsan_write_range, aero_hook_write_range)
 void aero_hook_write_range(struct goroutine *t, word at, word bytes, word code, place_t here) {
-    if (bytes) accessed(here, t, &(struct access){"w", at, bytes, code});
+    if (bytes) accessed(here, t, &(struct access){"w", at, bytes, code, 0});
 }
 
 /* ---- order */

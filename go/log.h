@@ -44,6 +44,7 @@ struct numbers {
 struct label {
     char *text;
     uint32_t length;
+    uint32_t package;        /* the length of the path of its package */
     struct numbers objects;  /* that functions of this name have allocated */
     struct label *next;
 };
@@ -58,7 +59,7 @@ enum {
     IS_BLOCK = 1, IS_RUNTIME = 2, IS_LOW = 4, IS_HOOK = 8, IS_SYNC = 16, IS_RACE = 32, IS_MAP = 64, IS_ENTRY = 128,
     IS_ENTRY_LOAD = 256, IS_COND_WAIT = 512, SENDS = 1024, RUNS_TIMERS = 2048, RETURNS_BY_DEFERRED = 4096, PANICS = 8192,
     IS_LIBRARY = 16384, IS_QUIET = 32768, IS_UNKNOWN = 65536, ENDS_PROGRAM = 131072,
-    LOADS_OR_STORES = 262144, DELETES = 524288, IS_WRAPPER = 1048576
+    LOADS_OR_STORES = 262144, DELETES = 524288, IS_WRAPPER = 1048576, COMPARES = 2097152, LOADS = 4194304
 };
 /* A return address: the function that it is in, and the function whose source it is of, which may be inlined there. */
 struct code {
@@ -78,6 +79,7 @@ struct frame {
     struct code *function, *call;
     enum block_state block;
     bool is_start;           /* of what the goroutine starts with */
+    bool is_quiet;           /* a Once of the library calls it */
 };
 /* A goroutine, or the timers of a processor: a racectx of the runtime. */
 struct goroutine {
@@ -94,6 +96,8 @@ struct goroutine {
     int is_timer;            /* runs timers */
     int half;                /* within RWMutex.Lock, which acquires twice */
     word boxed;              /* the atomic.Value whose first word it has touched */
+    bool is_boxing;          /* it has taken that word, for the first store */
+    bool is_own_once;        /* the Once that it has found undone is the library's */
     struct code *go;         /* the go statement */
 };
 
@@ -110,11 +114,17 @@ struct sync {
     struct sync *sibling;    /* of the same object */
     uint64_t owner;          /* of a mutex: the id of the goroutine that has it, 0: nobody */
     uint32_t owner_number;
-    uint64_t sender;         /* of what is in the slot of a channel */
+    uint64_t sender;         /* of what is in the slot of a channel, or 0 */
+    uint64_t taker;          /* of the latest message of another goroutine in the slot of a channel, or 0 */
+    uint64_t closer;         /* of a channel */
     bool is_handed;          /* a mutex that another goroutine has unlocked */
+    uint64_t unlocker;       /* of a mutex, or a RWMutex for writing, that another goroutine had locked, or 0 */
+    uint64_t writer;         /* who has locked a RWMutex for writing latest */
     unsigned holders;        /* of a RWMutex, by the program */
     unsigned step;           /* of the steps that the runtime calls for one message */
     bool is_merged;          /* a WaitGroup in a round of Done */
+    bool is_by_several;      /* the round's Done are of several goroutines */
+    uint64_t doer;           /* of the round's first Done, or 0 */
     uint32_t slots;
     size_t count, room;
     struct release *releases;
@@ -198,11 +208,11 @@ extern const int aero_writer_sem, aero_reader_sem;    /* where a RWMutex has the
 /* code.c */
 void aero_code_start(void (*callback)(word, void *), const word *g);
 struct code *aero_code(word at);
-struct label *aero_label(const char *text);
+struct label *aero_label(const char *name);     /* of the name in Go's tables */
 bool aero_is_of_library(const char *label);
 bool aero_is_init(const char *label);
 bool aero_is_wrapper(const char *label, const char *file);
-bool aero_is_given_to(const char *label, const char *value);    /* a function value of another package */
+bool aero_is_given_to(const struct label *starter, const struct label *value);    /* a function value of another package */
 /* Who asked, from the address on along the frames; *place is the first code that isn't of the runtime or of sync. */
 struct code *aero_asked(const struct here *here, word at, struct code **place);
 bool aero_is_within_wait(const struct here *here);   /* Cond.Wait */
@@ -222,6 +232,7 @@ void aero_leave_by_panic(struct goroutine *t, const struct here *here);
 void aero_symbols_start(void);
 bool aero_has_symbols(void);
 const char *aero_global(word at, word *start, word *end);    /* the global variable that has the byte, or NULL */
+char *aero_unescape(char *text);               /* turns the name in Go's tables into that of the log, and returns its end */
 const word *aero_word(const char *variable);   /* where the global variable of that name lies, or NULL */
 bool aero_is_counter(word at);                 /* of go test -cover, and nothing that the program itself has */
 int aero_each_function(bool (*each)(const char *label));     /* until it returns 0 */
@@ -260,6 +271,7 @@ struct access {
     const char *operation;
     word at, bytes;          /* bytes: 0: a single access, of any size */
     word code;
+    word within;             /* the function of the runtime that accesses, as closechan, or 0 */
 };
 /* What follows the name of a variable. */
 struct suffix {

@@ -106,5 +106,6 @@ char *aero_put_variable(char *to, word at) {
     if (object) return put_object(to, object, at);
     const char *name = aero_global(at, &start, &end);
     if (!name) return aero_put_number(aero_put(to, "0x"), at, 16);
-    return put_offset(put_short(to, name, strlen(name)), at - start);
+    *put_short(to, name, strlen(name)) = 0;
+    return put_offset(aero_unescape(to), at - start);
 }

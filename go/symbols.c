@@ -118,6 +118,26 @@ bool aero_is_counter(word at) {
     return name && is_counter(name);
 }
 
+static int digit_of(char byte) {
+    static const char digits[] = "0123456789abcdef";
+    const char *found = byte ? strchr(digits, byte) : NULL;
+    return found ? (int)(found - digits) : -1;
+}
+
+/* Replaces %2e and the like by their bytes, and returns the end of the text. Go's tables have gopkg.in/yaml%2ev3.Marshal, so that the
+ * first dot behind the last slash ends the path of the package. */
+char *aero_unescape(char *text) {
+    char *to = text;
+    for (const char *at = text; *at; at++) {
+        int high = *at == '%' ? digit_of(at[1]) : -1, low = high < 0 ? -1 : digit_of(at[2]), byte = high * 16 + low;
+        bool is_escaped = low >= 0 && byte > ' ' && byte != 127 && byte != '|';
+        *to++ = is_escaped ? (char)byte : *at;
+        at += is_escaped ? 2 : 0;
+    }
+    *to = 0;
+    return to;
+}
+
 /* What Go's tables of functions have: main.Map[...] for main.Map[go.shape.int_0]. */
 static void put_function(char *to, const char *name) {
     const char *open = strchr(name, '['), *close = open ? strrchr(name, ']') : NULL;

@@ -86,29 +86,41 @@ void aero_acquire(struct goroutine *t, struct sync *s, const struct code *place)
 
 /* ---- sync's types */
 
+/* Who locks what another goroutine has unlocked, and hadn't locked, waits for that one, as at a semaphore. */
+static void wait_for_unlocker(struct goroutine *t, const struct sync *s, bool locks) {
+    if (locks && s->unlocker && s->unlocker != t->id) aero_waits(t);
+}
+
 /* A lock as long as who has locked it unlocks it, and from then on a variable. */
 static void mutex(struct goroutine *t, word at, bool locks, const struct code *place) {
     struct sync *s = aero_sync(at);
-    if (!locks && s->owner != t->id) {
+    bool hands_on = !locks && s->owner != t->id;
+    if (hands_on) {
         release_for_owner(s);
         s->is_handed = true;
     }
+    wait_for_unlocker(t, s, locks);
+    s->unlocker = hands_on ? t->id : 0;
     if (s->is_handed) aero_suffixed(t, "w", at, &(struct suffix){".handed", -1, place});
     else aero_suffixed(t, locks ? "acq" : "rel", at, &(struct suffix){"", -1, place});
     s->owner = locks ? t->id : 0;
     s->owner_number = t->number;
 }
 
-/* Done merges, Wait acquires. The first Done behind a Wait begins another round. */
+/* Done merges, Wait acquires. The first Done behind a Wait begins another round. Who has made each Done of it itself waits for nobody. */
 static void wait_group(struct goroutine *t, const struct ordered *it) {
     struct sync *s = aero_sync(it->at);
     if (it->how == ACQUIRE) {
-        aero_waits(t);
+        if (s->doer && (s->doer != t->id || s->is_by_several)) aero_waits(t);
         aero_acquire(t, s, it->place);
         s->is_merged = false;
         return;
     }
-    if (!s->is_merged) s->count = 0;
+    if (!s->is_merged) {
+        s->count = 0;
+        s->doer = t->id;
+    }
+    s->is_by_several = s->is_merged && (s->is_by_several || s->doer != t->id);
     s->is_merged = true;
     aero_release(t, s, 1, it->place);
 }
@@ -144,6 +156,9 @@ static void read_or_write(struct goroutine *t, const struct ordered *it) {
     if (!s->holders && is_own_lock(it)) return;
     if (locks) s->holders++;
     else if (s->holders) s->holders--;
+    wait_for_unlocker(t, s, locks);
+    if (writes && !locks) s->unlocker = s->writer == t->id ? 0 : t->id;
+    if (writes && locks) s->writer = t->id;
     aero_suffixed(t, writes ? "w" : "r", s->at, &(struct suffix){".rw", -1, it->place});
 }
 
@@ -165,7 +180,7 @@ void aero_order(const struct here *here, struct goroutine *t, word at, enum orde
     const struct code *asker = aero_asked(here, *(const word *)here->stack, &place);
     const struct ordered it = {at, how, asker, place};
     aero_drop_dead(t, here, here->stack);
-    if (asker->asker == HELPER || asker->asker == NOBODY) return;
+    if (asker->asker == HELPER || asker->asker == NOBODY || (asker->asker == WAIT_GROUP && aero_is_quiet(t))) return;
     if (asker->asker == MUTEX) lock_or_unlock(t, &it);
     else if (asker->asker == READER || asker->asker == WRITER) read_or_write(t, &it);
     else if (asker->asker == WAIT_GROUP) wait_group(t, &it);

@@ -198,7 +198,7 @@ class Comparison:
             elif step:
                 seen.append((line.operation, thing))
                 self.touched.setdefault(step.number, set()).add((line.name, line.operation))
-            elif not (line.operation == "r" and ("w", thing) in wanted and self.names.may_read(thing)):
+            elif not (line.operation == "r" and ("w", thing) in wanted and self.may_read(line, lines, thing, wanted["w", thing])):
                 self.differ("extra access", first, "none of %s" % thing, line)
         for (operation, name), step in wanted.items():
             near = self.names.wider(name, operation, lines, step)
@@ -210,6 +210,10 @@ class Comparison:
                 elif not (operation == "r" and ("w", name) in wanted) and not self.program.may_lack(step):
                     # (Compilers leave out the event of a read before a write of the same place, if nothing is in between.)
                     self.differ("missing", step, "%s(%s)" % (operation, name), ", ".join(map(str, lines[:5])) or "nothing")
+
+    def may_read(self, line, lines, variable, step):
+        """Returns whether the step, which writes the variable, may also read it by the name of the line."""
+        return self.names.may_read(variable) or (line.name, "r") in self.names.wider(variable, "w", lines, step)
 
     def compare_conflicts(self):
         """Compares which accesses conflict."""

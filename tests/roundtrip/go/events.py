@@ -15,7 +15,7 @@ class Events:
     def __init__(self, program):
         self.program, self.puts, self.gets, self.once_done, self.sender = program, {}, {}, set(), {}
         self.dones, self.waited, self.tokens, self.handed, self.owner, self.sets = {}, set(), {}, set(), {}, {}
-        self.open_blocks, self.timers = {}, FIRST_TIMER - 1
+        self.open_blocks, self.timers, self.taker, self.closer, self.unlocker = {}, FIRST_TIMER - 1, {}, {}, {}
         self.splits = program.settings.get("AERODROME_SPLIT", "waits").split(",")
 
     def all(self):
@@ -89,15 +89,21 @@ class Events:
 
     def of_lock(self, step):
         self.owner[step.target] = step.thread
-        return [self.as_variable(step) or ("acq", step.target)]
+        events = [self.as_variable(step) or ("acq", step.target)]
+        return self.waits(step, events) if self.unlocker.get(step.target, step.thread) != step.thread else events
 
     def of_unlock(self, step):
         owner, event = self.owner[step.target], self.as_variable(step)
         if event:
+            if owner != step.thread and event[0] == "w":
+                self.unlocker[step.target] = step.thread
+            elif event[0] == "w":
+                self.unlocker.pop(step.target, None)
             return [event]
         if owner == step.thread:
             return [("rel", step.target)]
         self.handed.add(step.target)
+        self.unlocker[step.target] = step.thread
         return [("rel", step.target, owner), ("w", step.target + ".handed")]
 
     def of_rel(self, step):
@@ -125,7 +131,8 @@ class Events:
 
     def of_await(self, step):
         self.waited.add(step.target)
-        return self.waits(step, [("r", done) for done, thread in self.dones.get(step.target, []) if thread != step.thread])
+        events = [("r", done) for done, thread in self.dones.get(step.target, []) if thread != step.thread]
+        return self.waits(step, events) if events else []
 
     # Channels. Who sends looks whether the channel is closed.
 
@@ -138,7 +145,10 @@ class Events:
         if self.is_of_tokens(step):
             self.tokens.setdefault(step.target, []).append((number, step.thread))
             return [("r", step.target), ("w", "%s.token%d" % (step.target, number))]
-        return [("r", step.target), ("w", "%s.slot%d" % (step.target, number % self.slots(step)))]
+        slot = "%s.slot%d" % (step.target, number % self.slots(step))
+        taker = self.taker.get(slot, step.thread)
+        events = [("w", slot)]
+        return [("r", step.target)] + (events if taker == step.thread else self.waits(step, events))
 
     def of_get(self, step):
         if self.is_of_tokens(step):
@@ -148,14 +158,21 @@ class Events:
             tokens.remove(token)
             return [] if own else self.waits(step, [("r", "%s.token%d" % (step.target, token[0]))])
         number = self.count(self.gets, step.target)
-        events = [("w", "%s.slot%d" % (step.target, number % self.slots(step)))]
-        return events if self.sender[step.target, number] == step.thread else self.waits(step, events)
+        slot = "%s.slot%d" % (step.target, number % self.slots(step))
+        events = [("w", slot)]
+        if self.sender[step.target, number] == step.thread:
+            self.taker.pop(slot, None)
+            return events
+        self.taker[slot] = step.thread
+        return self.waits(step, events)
 
     def of_close(self, step):
+        self.closer[step.target] = step.thread
         return [("w", step.target)]
 
     def of_pass(self, step):
-        return self.waits(step, [("r", step.target)])
+        events = [("r", step.target)]
+        return events if self.closer.get(step.target) == step.thread else self.waits(step, events)
 
     def of_send(self, step):
         return [("r", step.target)] + self.waits(step, [("w", "%s.%d" % (step.target, self.count(self.puts, step.target)))])

@@ -89,4 +89,6 @@ class Names:
         return self.program.variables[variable].place.name == "a map"
 
     def wider(self, variable, operation, lines, step):
-        return set()
+        """Returns the reads of eight bytes that were only copied so far, by the first write of one of their parts."""
+        return {(line.name, "r") for line in lines if (operation, line.operation) == ("w", "r") and line.name.endswith(":8")
+                and self.learned.get(line.name) == variable}

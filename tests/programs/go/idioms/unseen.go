@@ -2,6 +2,15 @@
 package main
 
 import (
+	"encoding/gob"
+	"encoding/json"
+	"encoding/xml"
+	"hash/crc32"
+	"html"
+	"io"
+	"net"
+	"reflect"
+	"strings"
 	"sync"
 	"sync/atomic"
 	"time"
@@ -77,8 +86,83 @@ var (
 func writeAhead()  { ahead = 1; mark(0); after(1); twins.b = 2 }
 func writeBehind() { after(0); twins.a = int32(ahead); mark(1) }
 
+// The library makes something when it is needed first. Each function has it make one of two things, and finds the other one made.
+func inTurns(f func(int)) func() {
+	return func() { both(func() { f(0); mark(0); after(1); f(1) }, func() { after(0); f(0); f(1); mark(1) }) }
+}
+func useTable(n int) {
+	if n == 0 {
+		crc32.ChecksumIEEE(nil)
+	} else {
+		html.UnescapeString("&lt;")
+	}
+}
+
+var replacers = [2]*strings.Replacer{strings.NewReplacer("<", "&lt;", "&", "&amp;"), strings.NewReplacer("\r", "", "\n", ";")}
+
+func replace(n int) { replacers[n].Replace("<") }
+func makeTypes(n int) {
+	of := reflect.ArrayOf(1000+n, reflect.TypeOf(n))
+	reflect.PointerTo(of)
+	reflect.SliceOf(of)
+	reflect.MapOf(of, of)
+	reflect.ChanOf(reflect.BothDir, of)
+	reflect.FuncOf([]reflect.Type{of}, nil, false)
+	reflect.StructOf([]reflect.StructField{{Name: "Of", Type: of}})
+}
+
+type leaf struct{ X, Y int }
+type branch struct {
+	Leaves []leaf
+	First  *leaf
+}
+
+func valueOf(n int) any { return [2]any{leaf{1, 2}, branch{First: &leaf{3, 4}}}[n] }
+func decodeJSON(n int) {
+	json.Unmarshal([]byte(`{"X": 1}`), reflect.New(reflect.TypeOf(valueOf(n))).Interface())
+}
+func encodeXML(n int) { xml.Marshal(valueOf(n)) }
+func encodeGob(n int) { gob.NewEncoder(io.Discard).Encode(valueOf(n)) }
+
+// But what a Once of the library closes is found closed.
+var near, far = net.Pipe()
+
+func closeNear() { near.Close() }
+func readFar()   { far.Read(make([]byte, 1)) }
+
+// The library keeps what it has found out about types, of which several goroutines need a new one at once.
+type nothing struct{}
+
+func encodeTwice(v any) { json.Marshal(v); json.Marshal(v) }
+func encodeAll(start chan bool, all *sync.WaitGroup) {
+	<-start
+	encodeGob(1)
+	for i := 1; i < 60; i++ {
+		encodeTwice(reflect.New(reflect.ArrayOf(i, reflect.TypeOf(nothing{}))).Interface())
+	}
+	all.Done()
+}
+func encodes() {
+	start := make(chan bool)
+	var all sync.WaitGroup
+	for i := 0; i < 8; i++ {
+		all.Add(1)
+		go encodeAll(start, &all)
+	}
+	close(start)
+	all.Wait()
+}
+
 func init() {
 	for word, run := range map[string]func(){
+		"library-tables":     inTurns(useTable),
+		"library-replacers":  inTurns(replace),
+		"library-reflect":    inTurns(makeTypes),
+		"library-json":       inTurns(decodeJSON),
+		"library-xml":        inTurns(encodeXML),
+		"library-gob":        inTurns(encodeGob),
+		"library-closes":     follows(closeNear, readFar),
+		"library-types":      encodes,
 		"promoted-starts":    promotedStarts,
 		"unlocked-by-timer":  unlocksLater,
 		"init-method-splits": initMethod,

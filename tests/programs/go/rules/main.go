@@ -136,6 +136,11 @@ func changeRW(n int64)  { rw.Lock(); shared.a = n; rw.Unlock() }
 func locksIt()          { mu.Lock(); shared.a++; mark(0) }
 func unlocksIt()        { after(0); shared.b++; mu.Unlock() }
 func incr()             { mu.Lock(); shared.a++; mu.Unlock() }
+func waitsByLock()      { mu.Lock(); go locksOn(); mu.Lock(); mu.Unlock() }
+func waitsByWriter()    { rw.Lock(); go writesOn(); rw.Lock(); rw.Unlock() }
+func waitsByReader()    { rw.Lock(); go writesOn(); rw.RLock(); rw.RUnlock() }
+func writesOn()         { shared.a++; rw.Unlock() }
+func locksOn()          { shared.a++; mu.Unlock() }
 func unlockLater()      { mu.Lock(); shared.a++; time.AfterFunc(0, mu.Unlock) }
 func tries() {
 	if mu.TryLock() {
@@ -181,6 +186,66 @@ func blocked(wanted int, how string) {
 			return
 		}
 	}
+}
+
+// A Value that has none yet, and one that two goroutines change at once, each in one step.
+var (
+	unset, swapped atomic.Value
+	lives          [400]context.Context
+)
+
+func lookAtUnset() int64 { n, _ := unset.Load().(int64); return n }
+func storeUnset(n int64) { unset.Store(n) }
+func swapUnset(n int64)  { unset.Swap(n) }
+func replaceUnset(n int64) {
+	if !unset.CompareAndSwap(nil, n) {
+		unset.CompareAndSwap(int64(7), n)
+	}
+}
+func setUnset(i int)      { unsets[i].Store(int64(i)) }
+func beginsToEnd(i int)   { lives[i].Done() }
+func swapAlone() (n bool) { swapped.Store(int64(0)); return swapped.CompareAndSwap(int64(0), int64(1)) }
+
+var unsets [400]atomic.Value
+
+// Each for the same numbers, side by side. A goroutine starts with eachOf, so that only f is a block.
+func eachOf(f func(int), all *sync.WaitGroup) {
+	for i := range lives {
+		f(i)
+	}
+	all.Done()
+}
+func race(f func(int)) {
+	var all sync.WaitGroup
+	for i := 0; i < 8; i++ {
+		all.Add(1)
+		go eachOf(f, &all)
+	}
+	all.Wait()
+}
+
+// A goroutine starts with swaps, so that only swap is a block.
+func swap(seen int64) { swapped.CompareAndSwap(seen, seen+1) }
+func swaps(all *sync.WaitGroup) {
+	for range lives {
+		swap(swapped.Load().(int64))
+	}
+	all.Done()
+}
+func swapsAtOnce() {
+	var all sync.WaitGroup
+	swapped.Store(int64(0))
+	for i := 0; i < 4; i++ {
+		all.Add(1)
+		go swaps(&all)
+	}
+	all.Wait()
+}
+func contexts() {
+	for i := range lives {
+		lives[i], _ = context.WithCancel(context.Background())
+	}
+	race(beginsToEnd)
 }
 
 // --- the standard library
@@ -258,6 +323,85 @@ func keepsSlot() {
 	flag.Add(1)
 }
 func addsMeanwhile() { after(0); flag.Add(1); mark(1) }
+
+// Who has closed a channel itself, and has done all itself, waits for nobody.
+func closesOwn() int64 {
+	n, own := flag.Load(), make(chan int64, 2)
+	own <- 1
+	own <- 2
+	close(own)
+	for m := range own {
+		n += m
+	}
+	select {
+	case <-own:
+	case <-closing:
+	}
+	return n
+}
+func doneByItself() int64 {
+	var own sync.WaitGroup
+	n := flag.Load()
+	own.Wait()
+	own.Add(2)
+	own.Done()
+	own.Done()
+	own.Wait()
+	return n
+}
+
+// But another goroutine's close, and another one's Done among those of its own, are waited for.
+var ended = make(chan int)
+
+func foundEnded() int64 { n := flag.Load(); <-ended; return n }
+func doneByBoth() int64 {
+	n := flag.Load()
+	group.Add(2)
+	group.Done()
+	go group.Done()
+	group.Wait()
+	return n
+}
+
+// A producer has more messages than there is room for: from the third one on it waits for a consumer.
+func sendMany(to chan int) {
+	for i := 0; i < 6; i++ {
+		to <- i
+	}
+}
+func sendManySelecting(to chan int) {
+	for i := 0; i < 6; i++ {
+		select {
+		case to <- i:
+		case <-closing:
+		}
+	}
+}
+func receiveMany(from chan int) {
+	for i := 0; i < 6; i++ {
+		<-from
+	}
+}
+func signalMany()   { one <- struct{}{}; one <- struct{}{}; one <- struct{}{} }
+func awaitSignals() { <-one; <-one; <-one }
+func sendsTwice() {
+	n := flag.Load()
+	slot <- 1
+	mark(0)
+	after(1)
+	slot <- 2
+	flag.Store(n + 1)
+}
+func takesBetween() { after(0); <-slot; flag.Store(7); mark(1) }
+
+// One goroutine takes a slot for another one that gives it back.
+func hires() {
+	for i := 0; i < 4; i++ {
+		slot <- 1
+		go fired()
+	}
+}
+func fired() { incr(); <-slot }
 func selectSend(c chan struct{}) {
 	select {
 	case c <- struct{}{}:
@@ -435,6 +579,7 @@ func endByClose(c chan int) (n int) {
 func lastActs() {
 	for i := 0; i < 300; i++ {
 		c := make(chan int)
+		queue = make(chan int, 2)
 		group.Add(1)
 		go func() {
 			for _, f := range []func(){endByUnlock, endByDone} {
@@ -526,24 +671,27 @@ func collected() {
 }
 
 var words = map[string]func(){
-	"neighbours":     func() { both(lowTwice, highTwice) },
-	"copied":         func() { both(copyBack, addToB) },
-	"copied-known":   copiedKnown,
-	"copied-halves":  func() { both(lowOne, highOne) },
-	"map-access":     splits(lookAtMap, changeMap),
-	"stacks":         stacks,
-	"locks":          crosses(func() { locked(func() { shared.a++ }) }),
-	"lock-follows":   follows(func() { locked(func() {}) }, func() { locked(func() {}) }),
-	"handed":         func() { both(locksIt, unlocksIt); both(incr, incr) },
-	"tries":          func() { both(tries, func() {}) },
-	"unlocked-later": func() { unlockLater(); both(incr, incr) },
-	"readers":        func() { both(readHeld, readMeanwhile) },
-	"readers-cross":  crosses(readLocked),
-	"writer-splits":  splits(lookRW, changeRW),
-	"reader-follows": follows(func() { rw.Lock(); rw.Unlock() }, func() { rw.RLock(); rw.RUnlock() }),
-	"writer-follows": follows(func() { rw.RLock(); rw.RUnlock() }, func() { rw.Lock(); rw.Unlock() }),
-	"done-cross":     func() { group.Add(4); crosses(func() { group.Done() })() },
-	"wait-follows":   func() { group.Add(1); follows(func() { group.Done() }, func() { group.Wait() })() },
+	"neighbours":      func() { both(lowTwice, highTwice) },
+	"copied":          func() { both(copyBack, addToB) },
+	"copied-known":    copiedKnown,
+	"copied-halves":   func() { both(lowOne, highOne) },
+	"map-access":      splits(lookAtMap, changeMap),
+	"stacks":          stacks,
+	"locks":           crosses(func() { locked(func() { shared.a++ }) }),
+	"lock-follows":    follows(func() { locked(func() {}) }, func() { locked(func() {}) }),
+	"handed":          func() { both(locksIt, unlocksIt); both(incr, incr) },
+	"waits-by-lock":   waitsByLock,
+	"waits-by-writer": waitsByWriter,
+	"waits-by-reader": waitsByReader,
+	"tries":           func() { both(tries, func() {}) },
+	"unlocked-later":  func() { unlockLater(); both(incr, incr) },
+	"readers":         func() { both(readHeld, readMeanwhile) },
+	"readers-cross":   crosses(readLocked),
+	"writer-splits":   splits(lookRW, changeRW),
+	"reader-follows":  follows(func() { rw.Lock(); rw.Unlock() }, func() { rw.RLock(); rw.RUnlock() }),
+	"writer-follows":  follows(func() { rw.RLock(); rw.RUnlock() }, func() { rw.Lock(); rw.Unlock() }),
+	"done-cross":      func() { group.Add(4); crosses(func() { group.Done() })() },
+	"wait-follows":    func() { group.Add(1); follows(func() { group.Done() }, func() { group.Wait() })() },
 	"wait-two-follows": func() {
 		group.Add(2)
 		follows(func() { group.Done() }, func() { group.Done(); group.Wait() })()
@@ -566,6 +714,14 @@ var words = map[string]func(){
 		value.Store(int64(0))
 		splits(func() int64 { n, _ := value.Load().(int64); return n }, func(n int64) { value.Store(n) })()
 	},
+	"unset-stores":     splits(lookAtUnset, storeUnset),
+	"unset-swaps":      splits(lookAtUnset, swapUnset),
+	"unset-replaced":   splits(lookAtUnset, replaceUnset),
+	"unset-cross":      crosses(func() { unset.Load() }),
+	"unset-at-once":    func() { race(setUnset) },
+	"swaps-at-once":    swapsAtOnce,
+	"swap-alone":       func() { swapAlone() },
+	"contexts-begin":   contexts,
 	"library-lines":    crosses(func() { lines.Print("x") }),
 	"library-draws":    crosses(draws),
 	"library-life":     crosses(func() { life.Err() }),
@@ -581,6 +737,15 @@ var words = map[string]func(){
 	"several-kept":     func() { both(keepsSeveral, addsMeanwhile) },
 	"slot-received":    func() { go sendSlots(); receiveSlots() },
 	"slot-kept":        func() { both(keepsSlot, addsMeanwhile) },
+	"own-close":        splits(closesOwn, flag.Store),
+	"own-done":         splits(doneByItself, flag.Store),
+	"others-close":     func() { close(ended); splits(foundEnded, flag.Store)() },
+	"others-done":      splits(doneByBoth, flag.Store),
+	"sends-many":       func() { both(func() { sendMany(queue) }, func() { receiveMany(queue) }) },
+	"selects-many":     func() { both(func() { sendManySelecting(queue) }, func() { receiveMany(queue) }) },
+	"signals-many":     func() { both(signalMany, awaitSignals) },
+	"sends-twice":      func() { both(sendsTwice, takesBetween) },
+	"hires":            func() { hires(); alone() },
 	"semaphore-cross":  func() { both(holdTwice, holdMeanwhile) },
 	"select-one":       follows(func() { selectSend(one) }, func() { selectReceive(one) }),
 	"select-several":   follows(func() { selectSend(several) }, func() { selectReceive(several) }),
