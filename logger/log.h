@@ -330,8 +330,10 @@ void aero_sort_symbols(struct table *table);
 void aero_memory_start(void);
 /* What parts.c keeps of the eight bytes at the address; NULL where there's no memory. The log's lock is held. */
 uint16_t *aero_parts_at(uintptr_t address);
-void aero_renew(uintptr_t from, uintptr_t to);        /* what lies there is new variables */
+enum { AERO_PIECE = 4 };
+void aero_renew(uintptr_t from, uintptr_t to);        /* what lies there is new variables, in whole pieces of so many bytes */
 uint32_t aero_generation(uintptr_t address);          /* how often it was renewed */
+uintptr_t aero_step(uintptr_t address);               /* and, with it, how many bytes: AERO_PIECE or more */
 void aero_mark_stack(uintptr_t low, uintptr_t high);  /* accesses to its pages are noted */
 
 /* stacks.c */
@@ -352,6 +354,7 @@ static inline bool aero_is_noted(const struct stack *stack) {
 /* parts.c */
 /* A copy may be of several variables at a time. */
 enum access { PLAIN, COPY };
+void aero_forget_half(uint16_t *parts, unsigned from);    /* of eight bytes those from 0 or 4 on are new */
 /* The lines of an access; the log's lock is held. */
 void aero_span(const char *operation, enum access how, uintptr_t address, size_t bytes, uintptr_t code);
 

@@ -63,6 +63,11 @@ static bool is_one(unsigned parts, unsigned from, unsigned to) {
     return is_touched(parts, from) && !(parts & (inner | COPIED_ONLY)) && begins >> from & 1 && ends;
 }
 
+void aero_forget_half(uint16_t *parts, unsigned from) {
+    unsigned half = 0xfu << from, left = (*parts | HALVES) & ~(half << TOUCHED | (half & half << 1) | COPIED_ONLY);
+    *parts = (uint16_t)(left & ALL_TOUCHED ? left : 0);
+}
+
 /* One access to bytes of the eight at the address. */
 static void log_parts(const char *operation, enum access how, uintptr_t at, unsigned from, unsigned to, uintptr_t code) {
     uint16_t *kept = aero_parts_at(at);

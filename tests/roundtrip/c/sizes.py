@@ -1,6 +1,6 @@
 """Bytes that programs in C and C++ access in several widths: which names the log has for each access.
 
-A thing of the kind "bytes" is 24 bytes at an address that 16 divides. Each step of it, a "touch", is a form of this
+A thing of the kind "bytes" is 24 bytes at an address that 16 divides, or 8 in a pool. Each step of it, a "touch", is a form of this
 module, and its events are exact: the class Sizes says which variables there are, as docs/logging-events.md promises, or AERODROME_GRAIN
 does. In a text, $at is the address of the part, $n its bytes, $t a type of so many, $whole the address of the thing, and $i its number.
 """
@@ -19,13 +19,14 @@ typedef unsigned part4 __attribute__((may_alias));
 typedef unsigned long part8 __attribute__((may_alias));
 typedef int part16 __attribute__((vector_size(16), may_alias));"""
 
-#: Where the bytes are: what stands outside of functions, and what main does first. (Memory is renewed by 16 bytes, so no variable lies
-#: in the 32 bytes of a place. Constructors of global objects have accessed the stack before, in sizes of their own.)
+#: Where the bytes are: what stands outside of functions, and what main does first. (In a pool they lie side by side. Constructors of
+#: global objects have accessed the stack before, in sizes of their own.)
 Where = namedtuple("Where", "name declared born traits")
 DECLARED, BORN = "char $k[32] __attribute__((aligned(16)));", "stage_bytes($i, $k);"
 PLACES = [
     Where("a global", DECLARED, BORN, ""), Where("a static", "static " + DECLARED, BORN, ""),
     Where("main's stack", "", DECLARED + " AnnotateNewMemory(__FILE__, __LINE__, $k, 32); " + BORN, ""), Where("a thread-local of main", "static __thread " + DECLARED, BORN, ""),
+    Where("a pool", "", "AnnotateNewMemory(__FILE__, __LINE__, stage_pool + 24 * $i, 24); stage_bytes($i, stage_pool + 24 * $i);", "pool"),
     Where("heap", "", "stage_bytes($i, malloc(24));", "heap"),
     Where("mmap", "", "stage_bytes($i, mmap(0, 4096, PROT_READ | PROT_WRITE, MAP_PRIVATE | MAP_ANONYMOUS, -1, 0));", "mapped"),
 ]
@@ -212,7 +213,9 @@ def single(program, it):
 
 
 def wide(program, it):
-    """Accesses the first 16 bytes at once."""
+    """Accesses the first 16 bytes at once, if 16 divides their address."""
+    if "pool" in it.traits:
+        return None
     form, text = filled(program, it, WIDE, (program.random.choice("rw"),))
     return Touch(form.name, text, it.events(form.needs, "access", 0, 16))
 
