@@ -2,8 +2,11 @@
 #include "log.h"
 #include "memory.h"
 
+#include <errno.h>
 #include <stdarg.h>
 #include <sys/mman.h>
+#include <sys/shm.h>
+#include <unistd.h>
 
 /* ---- what is allocated again */
 
@@ -179,6 +182,32 @@ EXPORT void *mremap(void *old, size_t old_bytes, size_t bytes, int flags, ...) {
     size_t kept = at == old ? whole_pages(old_bytes) : 0;
     if (at != MAP_FAILED && kept < bytes) renew_pages(at + kept, bytes - kept);
     return at;
+}
+
+/* Shared memory of System V. What is mapped where it was detached is renewed then. */
+EXPORT void *shmat(int segment, const void *wanted, int flags) {
+    REAL(void *, shmat, int, const void *, int)
+    struct shmid_ds now;
+    void *at = real(segment, wanted, flags);
+    int before = errno;
+    if (at != (void *)-1 && !shmctl(segment, IPC_STAT, &now)) renew_pages(at, now.shm_segsz);
+    errno = before;
+    return at;
+}
+
+/* The heap of a program that asks for it itself. */
+EXPORT void *sbrk(intptr_t bytes) {
+    REAL(void *, sbrk, intptr_t)
+    void *at = real(bytes);
+    if (at != (void *)-1 && bytes > 0) aero_renew((uintptr_t)at, (uintptr_t)at + (uintptr_t)bytes);
+    return at;
+}
+EXPORT int brk(void *end) {
+    REAL(int, brk, void *)
+    uintptr_t before = (uintptr_t)sbrk(0);
+    int result = real(end);
+    if (!result) aero_renew(before, (uintptr_t)end);
+    return result;
 }
 
 /* ---- accesses */
