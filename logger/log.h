@@ -405,6 +405,7 @@ bool aero_is_rust(const char *symbol);
 char *aero_rust_name(const char *symbol);
 bool aero_is_of_rust_library(const char *label);
 bool aero_is_rust_main(const char *label);
+void aero_tell_unlogged(const char *label);           /* once, if a function of the program isn't logged */
 enum lock_call aero_lock_function(const char *label);
 void aero_enter_lock_function(enum lock_call what, uintptr_t code);
 void aero_leave_lock_function(uintptr_t code);
