@@ -84,7 +84,7 @@ EXPORT size_t malloc_usable_size(void *at) {
 
 static bool is_on(void) { return atomic_load_explicit(&aero_state, memory_order_relaxed) == ON; }
 
-/* The C library has nothing of the program's up to the next 16 bytes, in which the next piece begins. */
+/* Returns where a renewal may end: the C library gives the program nothing up to the next 16 bytes, where its next piece begins. */
 static uintptr_t rounded(uintptr_t end) { return allocator() == OF_THE_C_LIBRARY ? (end + 15) & -(uintptr_t)16 : end; }
 
 static void *renewed(void *at, size_t bytes) {
@@ -127,7 +127,7 @@ static void *moved_from_first(void *old, size_t bytes) {
     return at;
 }
 
-/* What it grows by, in place. */
+/* Renews the bytes by which memory grows in place. */
 static void renew_growth(void *at, size_t room) {
     aero_renew(rounded((uintptr_t)at + room), rounded((uintptr_t)at + malloc_usable_size(at)));
 }

@@ -63,8 +63,8 @@ static void ends(void *unused) {
     aero_finish();
 }
 
-/* At exit the C library calls what it was told of last first. So what it is told before any library is there comes behind the destructors
- * of all of them. */
+/* Registers the end of the log before any library is initialized. At exit the C library calls the handlers in the reverse order, so the log
+ * ends after the destructors of all libraries. */
 extern int __cxa_atexit(void (*call)(void *), void *with, void *object);
 static bool comes_last;
 static void before_libraries(void) { comes_last = !__cxa_atexit(ends, NULL, NULL); }

@@ -62,7 +62,7 @@ static uint32_t *unit_of(struct leaf *leaf, uintptr_t address) {
 }
 static size_t page_at(uintptr_t address) { return address >> PAGE_BITS & ((1 << (LEAF_BITS - PAGE_BITS)) - 1); }
 static uint32_t *page_of(struct leaf *leaf, uintptr_t address) { return &leaf->pages[page_at(address)]; }
-/* The counts of the page's pieces. */
+/* Returns the counts of the page's pieces; NULL if it has none, or memory is refused. */
 static uint32_t *pieces_of(struct leaf *leaf, uintptr_t address, bool make) {
     _Atomic(void *) *slot = &leaf->pieces[page_at(address)];
     uint32_t *pieces = atomic_load_explicit(slot, memory_order_acquire);
@@ -82,7 +82,7 @@ uint16_t *aero_parts_at(uintptr_t address) {
     return &leaf->parts[part_of(address)];
 }
 
-/* What lies there, within a page, has no parts any more. */
+/* Forgets the parts of bytes within a page. */
 static void forget_parts(struct leaf *leaf, uintptr_t from, uintptr_t to) {
     if (LIKELY(!(*has_parts(leaf, from) & USED))) return;
     for (; from < to; from += 8) leaf->parts[part_of(from)] = 0;
@@ -108,7 +108,7 @@ uintptr_t aero_step(uintptr_t address) {
     return leaf && pieces_of(leaf, address, false) ? AERO_PIECE : 1 << UNIT_BITS;
 }
 
-/* Those of one unit. */
+/* Renews pieces of one unit. */
 static void renew_pieces(uintptr_t from, uintptr_t to) {
     struct leaf *leaf = leaf_of(from, true);
     uint32_t *pieces = leaf ? pieces_of(leaf, from, true) : NULL;
@@ -119,7 +119,7 @@ static void renew_pieces(uintptr_t from, uintptr_t to) {
     }
 }
 
-/* Units of one page, or all. */
+/* Renews units of one page, or the whole page. */
 static void renew_in_page(struct leaf *leaf, uintptr_t from, uintptr_t to) {
     uint32_t *units = unit_of(leaf, from);
     forget_parts(leaf, from, to);
@@ -144,7 +144,7 @@ static void renew_units(uintptr_t from, uintptr_t to) {
     }
 }
 
-/* (what the C library allocates is whole units) */
+/* (Memory of the C library's malloc is whole units.) */
 void aero_renew(uintptr_t from, uintptr_t to) {
     const uintptr_t unit = 1 << UNIT_BITS, piece = AERO_PIECE;
     if (!with_fresh || atomic_load_explicit(&aero_state, memory_order_relaxed) != ON || from >= to) return;
@@ -156,7 +156,7 @@ void aero_renew(uintptr_t from, uintptr_t to) {
     if (UNLIKELY(first <= last && last < to)) renew_pieces(last, to);
 }
 
-/* ---- what is mapped */
+/* ---- mapped memory */
 
 static size_t whole_pages(size_t bytes) { return (bytes + (1 << PAGE_BITS) - 1) & -((size_t)1 << PAGE_BITS); }
 static void renew_pages(const void *at, size_t bytes) { aero_renew((uintptr_t)at, (uintptr_t)at + whole_pages(bytes)); }
@@ -184,7 +184,7 @@ EXPORT void *mremap(void *old, size_t old_bytes, size_t bytes, int flags, ...) {
     return at;
 }
 
-/* Shared memory of System V. What is mapped where it was detached is renewed then. */
+/* Attaches shared memory of System V. (shmdt needs nothing: the next mapping at the address renews it.) */
 EXPORT void *shmat(int segment, const void *wanted, int flags) {
     REAL(void *, shmat, int, const void *, int)
     struct shmid_ds now;
@@ -195,7 +195,7 @@ EXPORT void *shmat(int segment, const void *wanted, int flags) {
     return at;
 }
 
-/* The heap of a program that asks for it itself. */
+/* Moves the end of the heap, for a program that does so itself. */
 EXPORT void *sbrk(intptr_t bytes) {
     REAL(void *, sbrk, intptr_t)
     void *at = real(bytes);

@@ -118,7 +118,7 @@ bool aero_is_rust_main(const char *label) {
     return behind && !strcmp(behind, "::main");
 }
 
-/* LLVM has no hooks for what these functions do. */
+/* Returns whether LLVM has no hooks for the function. */
 static bool is_unlogged(const char *label) {
     const char *last = begins(label, "core::sync::atomic::Atomic") ? strrchr(label, ':') : NULL;
     return last && (!strcmp(last + 1, "fetch_max") || !strcmp(last + 1, "fetch_min"));
