@@ -20,7 +20,7 @@ SOURCES := HANDLES crates.txt $(shell find $(wildcard $(CRATES:=/src) $(CRATES:=
 LIBRARY := $(shell find $(wildcard crates/aero_c/src crates/aero_c/specs crates/aero_c/proofs) -type f)
 
 COMMANDS := $(patsubst commands/%,bin/%,$(wildcard commands/aerodrome-*))
-LOGGER := $(wildcard logger/* logger/include/* logger/include/bits/* logger/operators/*)
+LOGGER := $(wildcard logger/* logger/include/* logger/include/*/* logger/operators/*)
 WRAPPERS := bin/aerodrome-cc bin/aerodrome-c++ bin/aerodrome-rustc bin/aerodrome-places
 GO := $(wildcard go/*) logger/words.h
 JAVA := java/build $(wildcard java/src/aerodrome/table java/src/aerodrome/*.java java/src/aerodrome/*/*.java)

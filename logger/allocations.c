@@ -84,8 +84,13 @@ EXPORT size_t malloc_usable_size(void *at) {
 
 static bool is_on(void) { return atomic_load_explicit(&aero_state, memory_order_relaxed) == ON; }
 
+/* Returns where a renewal may end: the C library gives the program nothing up to the next 16 bytes, where its next piece begins. */
+static uintptr_t rounded(uintptr_t end) { return allocator() == OF_THE_C_LIBRARY ? (end + 15) & -(uintptr_t)16 : end; }
+
 static void *renewed(void *at, size_t bytes) {
-    if (at && UNLIKELY(is_on())) aero_renew((uintptr_t)at, (uintptr_t)at + (allocator() == WITHOUT_SIZES ? bytes : malloc_usable_size(at)));
+    if (!at || LIKELY(!is_on())) return at;
+    size_t room = allocator() == WITHOUT_SIZES ? bytes : malloc_usable_size(at);
+    aero_renew((uintptr_t)at, rounded((uintptr_t)at + room));
     return at;
 }
 
@@ -122,9 +127,9 @@ static void *moved_from_first(void *old, size_t bytes) {
     return at;
 }
 
-/* What it grows by, in place: from the first unit that had no byte of it before. */
+/* Renews the bytes by which memory grows in place. */
 static void renew_growth(void *at, size_t room) {
-    aero_renew(((uintptr_t)at + room + 15) & -(uintptr_t)16, (uintptr_t)at + malloc_usable_size(at));
+    aero_renew(rounded((uintptr_t)at + room), rounded((uintptr_t)at + malloc_usable_size(at)));
 }
 
 /* What stays in place keeps its names, and what it grows by is new. What may move is read before the old place is given back. Where

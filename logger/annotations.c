@@ -27,21 +27,29 @@ EXPORT void AnnotateRWLockReleased(AT, const volatile void *lock, long is_writer
     aero_releasing((uintptr_t)lock, HERE);
 }
 /* What was never allocated and is no global variable, such as a thread-local one of main's, has the name that its first allocation has. */
-static void renew_what_is_first(uintptr_t from, uintptr_t to) {
-    const uintptr_t unit = 16;
+static bool has_first_name(uintptr_t at) {
+    uintptr_t low = 0, high;
+    if (aero_generation(at) != 1) return false;
+    aero_symbol_bounds(at, &low, &high);
+    return !low;
+}
+static void renew_again(uintptr_t from, uintptr_t to) {
     if (!aero_enter()) return;
     aero_lock();
-    for (uintptr_t at = from & -unit, low, high; at < to; at += unit) {
-        aero_symbol_bounds(at, &low, &high);
-        if (!low && aero_generation(at) == 1) aero_renew(at, at + unit);
+    for (uintptr_t at = from &= -(uintptr_t)AERO_PIECE, step; at < to; at += step) {
+        step = aero_step(at);
+        if (has_first_name(at)) continue;
+        aero_renew(from, at);
+        from = at + step;
     }
+    aero_renew(from, to);
     aero_unlock();
     aero_leave();
 }
 EXPORT void AnnotateNewMemory(AT, const volatile void *at, long bytes) {
     if (bytes <= 0) return;
     aero_renew((uintptr_t)at, (uintptr_t)at + (uintptr_t)bytes);
-    renew_what_is_first((uintptr_t)at, (uintptr_t)at + (uintptr_t)bytes);
+    renew_again((uintptr_t)at, (uintptr_t)at + (uintptr_t)bytes);
 }
 
 /* ---- order */

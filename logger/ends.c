@@ -57,9 +57,20 @@ static void say_what_is_left(void) {
     fflush(stdout);
     funlockfile(stdout);
 }
-__attribute__((destructor(101))) static void late(void) {
+static void ends(void *unused) {
+    (void)unused;
     say_what_is_left();
     aero_finish();
+}
+
+/* Registers the end of the log before any library is initialized. At exit the C library calls the handlers in the reverse order, so the log
+ * ends after the destructors of all libraries. */
+extern int __cxa_atexit(void (*call)(void *), void *with, void *object);
+static bool comes_last;
+static void before_libraries(void) { comes_last = !__cxa_atexit(ends, NULL, NULL); }
+__attribute__((section(".preinit_array"), used)) static void (*first)(void) = before_libraries;
+__attribute__((destructor(101))) static void late(void) {
+    if (!comes_last) ends(NULL);
 }
 
 /* ---- ends that call no destructor */

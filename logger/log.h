@@ -330,8 +330,10 @@ void aero_sort_symbols(struct table *table);
 void aero_memory_start(void);
 /* What parts.c keeps of the eight bytes at the address; NULL where there's no memory. The log's lock is held. */
 uint16_t *aero_parts_at(uintptr_t address);
-void aero_renew(uintptr_t from, uintptr_t to);        /* what lies there is new variables */
+enum { AERO_PIECE = 4 };
+void aero_renew(uintptr_t from, uintptr_t to);        /* what lies there is new variables, in whole pieces of so many bytes */
 uint32_t aero_generation(uintptr_t address);          /* how often it was renewed */
+uintptr_t aero_step(uintptr_t address);               /* and, with it, how many bytes: AERO_PIECE or more */
 void aero_mark_stack(uintptr_t low, uintptr_t high);  /* accesses to its pages are noted */
 
 /* stacks.c */
@@ -352,6 +354,7 @@ static inline bool aero_is_noted(const struct stack *stack) {
 /* parts.c */
 /* A copy may be of several variables at a time. */
 enum access { PLAIN, COPY };
+void aero_forget_half(uint16_t *parts, unsigned from);    /* of eight bytes those from 0 or 4 on are new */
 /* The lines of an access; the log's lock is held. */
 void aero_span(const char *operation, enum access how, uintptr_t address, size_t bytes, uintptr_t code);
 
@@ -402,6 +405,7 @@ bool aero_is_rust(const char *symbol);
 char *aero_rust_name(const char *symbol);
 bool aero_is_of_rust_library(const char *label);
 bool aero_is_rust_main(const char *label);
+void aero_tell_unlogged(const char *label);           /* once, if a function of the program isn't logged */
 enum lock_call aero_lock_function(const char *label);
 void aero_enter_lock_function(enum lock_call what, uintptr_t code);
 void aero_leave_lock_function(uintptr_t code);

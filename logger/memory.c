@@ -2,29 +2,35 @@
 #include "log.h"
 #include "memory.h"
 
+#include <errno.h>
 #include <stdarg.h>
 #include <sys/mman.h>
+#include <sys/shm.h>
+#include <unistd.h>
 
 /* ---- what is allocated again */
 
-/* How often memory was allocated: for units of 16 bytes and for pages, whose sum counts. A leaf has 2^27 bytes of addresses. */
+/* How often memory was allocated: for pages, for units of 16 bytes, and, in pages where an object begins or ends within a unit, for
+ * pieces of four bytes. The sum of the three counts. A leaf has 2^27 bytes of addresses. */
 #define LEAF_BITS 27
 #define UNIT_BITS 4
 #define PAGE_BITS 12
+#define PIECES ((1 << PAGE_BITS) / AERO_PIECE)
 struct leaf {
     uint32_t units[1 << (LEAF_BITS - UNIT_BITS)];
     uint32_t pages[1 << (LEAF_BITS - PAGE_BITS)];
     uint16_t parts[1 << (LEAF_BITS - 3)];                /* parts.c */
     unsigned char has_parts[1 << (LEAF_BITS - PAGE_BITS)];    /* USED, and OF_STACK */
+    _Atomic(void *) pieces[1 << (LEAF_BITS - PAGE_BITS)];     /* of a page: PIECES counts, or NULL */
 };
 enum { USED = 1, OF_STACK = 2 };
-static _Atomic(struct leaf *) leaves[1 << (47 - LEAF_BITS)];
+static _Atomic(void *) leaves[1 << (47 - LEAF_BITS)];
 static bool with_fresh;
 
 void aero_memory_start(void) { with_fresh = aero_settings.fresh; }
 
 /* Without them two objects at one address would be one variable. So the log ends. */
-static struct leaf *refused(void) {
+static void *refused(void) {
     int before = aero_me.busy;
     bool within = aero_writes();
     aero_me.busy = 1;
@@ -35,33 +41,37 @@ static struct leaf *refused(void) {
     return NULL;
 }
 
-static __attribute__((noinline)) struct leaf *new_leaf(_Atomic(struct leaf *) *slot) {
-    struct leaf *leaf = NULL, *made = aero_pages(sizeof *made);
+static __attribute__((noinline)) void *new_table(_Atomic(void *) *slot, size_t bytes) {
+    void *table = NULL, *made = aero_pages(bytes);
     if (UNLIKELY(!made)) return refused();
-    if (atomic_compare_exchange_strong(slot, &leaf, made)) return made;
-    aero_free_pages(made, sizeof *made);
-    return leaf;
+    if (atomic_compare_exchange_strong(slot, &table, made)) return made;
+    aero_free_pages(made, bytes);
+    return table;
 }
 
 /* (each access comes here) */
 static inline struct leaf *leaf_of(uintptr_t address, bool make) {
     if (address >> 47) return NULL;
-    _Atomic(struct leaf *) *slot = &leaves[address >> LEAF_BITS];
+    _Atomic(void *) *slot = &leaves[address >> LEAF_BITS];
     struct leaf *leaf = atomic_load_explicit(slot, memory_order_acquire);
-    return LIKELY(leaf != NULL) || !make ? leaf : new_leaf(slot);
+    return LIKELY(leaf != NULL) || !make ? leaf : new_table(slot, sizeof *leaf);
 }
 
 static uint32_t *unit_of(struct leaf *leaf, uintptr_t address) {
     return &leaf->units[address >> UNIT_BITS & ((1 << (LEAF_BITS - UNIT_BITS)) - 1)];
 }
-static uint32_t *page_of(struct leaf *leaf, uintptr_t address) {
-    return &leaf->pages[address >> PAGE_BITS & ((1 << (LEAF_BITS - PAGE_BITS)) - 1)];
+static size_t page_at(uintptr_t address) { return address >> PAGE_BITS & ((1 << (LEAF_BITS - PAGE_BITS)) - 1); }
+static uint32_t *page_of(struct leaf *leaf, uintptr_t address) { return &leaf->pages[page_at(address)]; }
+/* Returns the counts of the page's pieces; NULL if it has none, or memory is refused. */
+static uint32_t *pieces_of(struct leaf *leaf, uintptr_t address, bool make) {
+    _Atomic(void *) *slot = &leaf->pieces[page_at(address)];
+    uint32_t *pieces = atomic_load_explicit(slot, memory_order_acquire);
+    return LIKELY(!make) || pieces ? pieces : new_table(slot, PIECES * sizeof *pieces);
 }
+static size_t piece_of(uintptr_t address) { return address / AERO_PIECE % PIECES; }
 
 static size_t part_of(uintptr_t address) { return address >> 3 & ((1 << (LEAF_BITS - 3)) - 1); }
-static unsigned char *has_parts(struct leaf *leaf, uintptr_t address) {
-    return &leaf->has_parts[address >> PAGE_BITS & ((1 << (LEAF_BITS - PAGE_BITS)) - 1)];
-}
+static unsigned char *has_parts(struct leaf *leaf, uintptr_t address) { return &leaf->has_parts[page_at(address)]; }
 
 uint16_t *aero_parts_at(uintptr_t address) {
     struct leaf *leaf = leaf_of(address, true);
@@ -72,11 +82,10 @@ uint16_t *aero_parts_at(uintptr_t address) {
     return &leaf->parts[part_of(address)];
 }
 
-/* What lies there, a unit or a page, has no parts any more. */
-static void forget_parts(struct leaf *leaf, uintptr_t from, uintptr_t bytes, bool whole) {
+/* Forgets the parts of bytes within a page. */
+static void forget_parts(struct leaf *leaf, uintptr_t from, uintptr_t to) {
     if (LIKELY(!(*has_parts(leaf, from) & USED))) return;
-    for (uintptr_t byte = 0; byte < bytes; byte += 8) leaf->parts[part_of(from + byte)] = 0;
-    if (whole) *has_parts(leaf, from) &= OF_STACK;
+    for (; from < to; from += 8) leaf->parts[part_of(from)] = 0;
 }
 
 void aero_mark_stack(uintptr_t low, uintptr_t high) {
@@ -89,30 +98,73 @@ void aero_mark_stack(uintptr_t low, uintptr_t high) {
 
 uint32_t aero_generation(uintptr_t address) {
     struct leaf *leaf = leaf_of(address, false);
-    return leaf ? *unit_of(leaf, address) + *page_of(leaf, address) : 0;
+    if (!leaf) return 0;
+    const uint32_t *pieces = pieces_of(leaf, address, false);
+    return *unit_of(leaf, address) + *page_of(leaf, address) + (UNLIKELY(pieces != NULL) ? pieces[piece_of(address)] : 0);
+}
+
+uintptr_t aero_step(uintptr_t address) {
+    struct leaf *leaf = leaf_of(address, false);
+    return leaf && pieces_of(leaf, address, false) ? AERO_PIECE : 1 << UNIT_BITS;
+}
+
+/* Renews pieces of one unit. */
+static void renew_pieces(uintptr_t from, uintptr_t to) {
+    struct leaf *leaf = leaf_of(from, true);
+    uint32_t *pieces = leaf ? pieces_of(leaf, from, true) : NULL;
+    if (!pieces) return;
+    for (; from < to; from += AERO_PIECE) {
+        ++pieces[piece_of(from)];
+        aero_forget_half(&leaf->parts[part_of(from)], from % 8);
+    }
+}
+
+/* Renews units of one page, or the whole page. */
+static void renew_in_page(struct leaf *leaf, uintptr_t from, uintptr_t to) {
+    uint32_t *units = unit_of(leaf, from);
+    forget_parts(leaf, from, to);
+    if (to - from == 1 << PAGE_BITS) {
+        ++*page_of(leaf, from);
+        *has_parts(leaf, from) &= OF_STACK;
+        return;
+    }
+    for (size_t one = 0; one < (to - from) >> UNIT_BITS; one++) ++units[one];
 }
 
 /* A leaf that isn't there, and all of whose addresses are renewed, needs none: nothing was accessed in it. So terabytes that a program
  * only reserves cost nothing. */
-void aero_renew(uintptr_t from, uintptr_t to) {
-    const uintptr_t unit = 1 << UNIT_BITS, page = 1 << PAGE_BITS, most = 1 << LEAF_BITS;
-    if (!with_fresh || atomic_load_explicit(&aero_state, memory_order_relaxed) != ON) return;
-    for (from &= -unit; from < to;) {
-        bool covers = !(from & (most - 1)) && to - from >= most, whole = !(from & (page - 1)) && to - from >= page;
+static void renew_units(uintptr_t from, uintptr_t to) {
+    const uintptr_t page = 1 << PAGE_BITS, most = 1 << LEAF_BITS;
+    for (uintptr_t end; from < to; from = end) {
+        bool covers = !(from & (most - 1)) && to - from >= most;
         struct leaf *leaf = leaf_of(from, !covers);
         if (!leaf && !covers) return;
-        if (leaf) {
-            ++*(whole ? page_of(leaf, from) : unit_of(leaf, from));
-            forget_parts(leaf, from, whole ? page : unit, whole);
-        }
-        from += !leaf ? most : whole ? page : unit;
+        end = leaf ? (from & -page) + page : from + most;
+        if (leaf) renew_in_page(leaf, from, end < to ? end : to);
     }
 }
+
+/* (Memory of the C library's malloc is whole units.) */
+void aero_renew(uintptr_t from, uintptr_t to) {
+    const uintptr_t unit = 1 << UNIT_BITS, piece = AERO_PIECE;
+    if (!with_fresh || atomic_load_explicit(&aero_state, memory_order_relaxed) != ON || from >= to) return;
+    from &= -piece;
+    to = (to + piece - 1) & -piece;
+    uintptr_t first = (from + unit - 1) & -unit, last = to & -unit;
+    if (UNLIKELY(from < first)) renew_pieces(from, first < to ? first : to);
+    renew_units(first, last);
+    if (UNLIKELY(first <= last && last < to)) renew_pieces(last, to);
+}
+
+/* ---- mapped memory */
+
+static size_t whole_pages(size_t bytes) { return (bytes + (1 << PAGE_BITS) - 1) & -((size_t)1 << PAGE_BITS); }
+static void renew_pages(const void *at, size_t bytes) { aero_renew((uintptr_t)at, (uintptr_t)at + whole_pages(bytes)); }
 
 EXPORT void *mmap(void *wanted, size_t bytes, int protection, int flags, int file, off_t offset) {
     REAL(void *, mmap, void *, size_t, int, int, int, off_t)
     void *at = real(wanted, bytes, protection, flags, file, offset);
-    if (at != MAP_FAILED) aero_renew((uintptr_t)at, (uintptr_t)at + bytes);
+    if (at != MAP_FAILED) renew_pages(at, bytes);
     return at;
 }
 EXPORT void *mmap64(void *wanted, size_t bytes, int protection, int flags, int file, off64_t offset) {
@@ -127,9 +179,35 @@ EXPORT void *mremap(void *old, size_t old_bytes, size_t bytes, int flags, ...) {
     void *wanted = flags & MREMAP_FIXED ? va_arg(list, void *) : NULL;
     va_end(list);
     char *at = real(old, old_bytes, bytes, flags, wanted);
-    size_t kept = at == old && old_bytes < bytes ? old_bytes : at == old ? bytes : 0;
-    if (at != MAP_FAILED) aero_renew((uintptr_t)at + kept, (uintptr_t)at + bytes);
+    size_t kept = at == old ? whole_pages(old_bytes) : 0;
+    if (at != MAP_FAILED && kept < bytes) renew_pages(at + kept, bytes - kept);
     return at;
+}
+
+/* Attaches shared memory of System V. (shmdt needs nothing: the next mapping at the address renews it.) */
+EXPORT void *shmat(int segment, const void *wanted, int flags) {
+    REAL(void *, shmat, int, const void *, int)
+    struct shmid_ds now;
+    void *at = real(segment, wanted, flags);
+    int before = errno;
+    if (at != (void *)-1 && !shmctl(segment, IPC_STAT, &now)) renew_pages(at, now.shm_segsz);
+    errno = before;
+    return at;
+}
+
+/* Moves the end of the heap, for a program that does so itself. */
+EXPORT void *sbrk(intptr_t bytes) {
+    REAL(void *, sbrk, intptr_t)
+    void *at = real(bytes);
+    if (at != (void *)-1 && bytes > 0) aero_renew((uintptr_t)at, (uintptr_t)at + (uintptr_t)bytes);
+    return at;
+}
+EXPORT int brk(void *end) {
+    REAL(int, brk, void *)
+    uintptr_t before = (uintptr_t)sbrk(0);
+    int result = real(end);
+    if (!result) aero_renew(before, (uintptr_t)end);
+    return result;
 }
 
 /* ---- accesses */

@@ -277,6 +277,7 @@ static void make_labels(void *given) {
         }
         making->labels[place] = to;
         aero_put_label(to, making->functions.symbols[place].name, true, MOST_NAME);
+        aero_tell_unlogged(to);
         to += strlen(to) + 1;
     }
 }

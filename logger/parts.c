@@ -8,9 +8,10 @@
  * So of two accesses that share a byte both share a variable, or one between them shares one with either: no order is lost. Of two
  * that share none, both share a variable only where a part was read, or first written, of what was accessed as a whole before.
  *
- * A copy, as by memcpy, says nothing of the sizes: what it is the first to access becomes variables of four bytes, or of fewer at its
- * ends, and it splits none. As long as eight bytes were copied only, and all at a time, an access to all makes them one: its name is
- * that of the first four, which each copy has logged. Allocated again they begin anew. */
+ * A copy, as by memcpy, says nothing of the sizes within it, only where it begins and ends: what it is the first to access becomes
+ * variables of four bytes, or of fewer at its ends, and what it writes of a variable is set apart. As long as eight bytes were copied
+ * only, and all at a time, an access to all makes them one: its name is that of the first four, which each copy has logged. Parts never
+ * become one again, unless they are allocated again: then they begin anew. */
 #include "log.h"
 
 /* A bit for each byte that begins a variable, but for the first one, which always does; and for each that was accessed. */
@@ -62,6 +63,11 @@ static bool is_one(unsigned parts, unsigned from, unsigned to) {
     return is_touched(parts, from) && !(parts & (inner | COPIED_ONLY)) && begins >> from & 1 && ends;
 }
 
+void aero_forget_half(uint16_t *parts, unsigned from) {
+    unsigned half = 0xfu << from, left = (*parts | HALVES) & ~(half << TOUCHED | (half & half << 1) | COPIED_ONLY);
+    *parts = (uint16_t)(left & ALL_TOUCHED ? left : 0);
+}
+
 /* One access to bytes of the eight at the address. */
 static void log_parts(const char *operation, enum access how, uintptr_t at, unsigned from, unsigned to, uintptr_t code) {
     uint16_t *kept = aero_parts_at(at);
@@ -76,7 +82,7 @@ static void log_parts(const char *operation, enum access how, uintptr_t at, unsi
     }
     unsigned parts = how == COPY ? copied(before, from, to) : accessed(before, from, to);
     unsigned first = start_of(parts, from), last = end_of(parts, to - 1);
-    if (how == PLAIN && *operation == 'w') parts = set_apart(parts, from, to);
+    if (*operation == 'w') parts = set_apart(parts, from, to);
     if (parts != before) *kept = (uint16_t)parts;
     for (; first < last; first = end_of(parts, first)) aero_line(operation, "", at + first, NULL, code);
 }

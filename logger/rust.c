@@ -118,6 +118,16 @@ bool aero_is_rust_main(const char *label) {
     return behind && !strcmp(behind, "::main");
 }
 
+/* Returns whether LLVM has no hooks for the function. */
+static bool is_unlogged(const char *label) {
+    const char *last = begins(label, "core::sync::atomic::Atomic") ? strrchr(label, ':') : NULL;
+    return last && (!strcmp(last + 1, "fetch_max") || !strcmp(last + 1, "fetch_min"));
+}
+void aero_tell_unlogged(const char *label) {
+    static atomic_int is_told;
+    if (is_unlogged(label) && !atomic_exchange(&is_told, 1)) aero_say(label, "the compiler has no hooks for it, so it isn't in the log");
+}
+
 /* ---- functions that lock */
 
 /* Whether the label is that of the type's function, behind std::sync, and the module that some versions have there. */

@@ -86,7 +86,7 @@ void aero_renew_below(uintptr_t end) {
     aero_lock();
     uintptr_t from = stack->noted;
     if (from && from < end) {
-        aero_renew(from, end);
+        aero_renew(from & -(uintptr_t)16, end);
         stack->noted = end < stack->noted_end ? end : 0;
         if (!stack->noted) stack->noted_end = 0;
     }

@@ -3,7 +3,7 @@
  * all that is one variable, the other thread's write comes between two of the block. Pipes hand over, which no log has.
  *
  *   again [NAME]   allocates by the function NAME (malloc): calloc, realloc, reallocarray, memalign, aligned_alloc, posix_memalign,
- *                  mmap, mmap64
+ *                  mmap, mmap64, shmat, sbrk, brk
  *   again grown    hands over what lies behind other memory, which it lets grow over that once it was freed
  *   again less     hands over memory of which it then keeps less, at the same address
  *   again more     hands over memory that then grows at the same address: in these two cases it stays the same variable */
@@ -15,12 +15,25 @@
 #include <stdlib.h>
 #include <string.h>
 #include <sys/mman.h>
+#include <sys/shm.h>
 #include <unistd.h>
 
 /* More than the allocator keeps for each thread. */
 enum { BYTES = 2048 };
 static const char *name = "malloc";
 static int there[2], back[2];
+
+/* A segment of so many bytes; once it is detached it is gone. */
+static void *attach(void) {
+    int segment = shmget(IPC_PRIVATE, BYTES, 0600);
+    void *memory = shmat(segment, NULL, 0);
+    shmctl(segment, IPC_RMID, NULL);
+    return memory;
+}
+static void *extend(void) {
+    char *end = sbrk(0);
+    return brk(end + BYTES) ? NULL : end;
+}
 
 static void *allocate(void) {
     void *memory = NULL;
@@ -31,11 +44,17 @@ static void *allocate(void) {
     if (!strcmp(name, "aligned_alloc")) return aligned_alloc(16, BYTES);
     if (!strcmp(name, "posix_memalign")) return posix_memalign(&memory, 16, BYTES) ? NULL : memory;
     if (!strcmp(name, "mmap")) return mmap(NULL, BYTES, PROT_READ | PROT_WRITE, MAP_PRIVATE | MAP_ANONYMOUS, -1, 0);
+    if (!strcmp(name, "shmat")) return attach();
+    if (!strcmp(name, "sbrk")) return sbrk(BYTES);
+    if (!strcmp(name, "brk")) return extend();
     if (!strcmp(name, "mmap64")) return mmap64(NULL, BYTES, PROT_READ | PROT_WRITE, MAP_PRIVATE | MAP_ANONYMOUS, -1, 0);
     return malloc(BYTES);
 }
 static void give_back(void *memory) {
     if (!strncmp(name, "mmap", 4)) munmap(memory, BYTES);
+    else if (!strcmp(name, "shmat")) shmdt(memory);
+    else if (!strcmp(name, "sbrk")) sbrk(-BYTES);
+    else if (!strcmp(name, "brk")) brk(memory);
     else free(memory);
 }
 

@@ -1,5 +1,5 @@
-/* A library that allocates, as jemalloc does: it ends the program where it is given back what isn't its own. LATER leaves out what such a
- * library may leave to the C library. */
+/* A library that allocates, as jemalloc does: it ends the program where it is given back what isn't its own. WITHOUT_SIZES leaves out what
+ * such a library may leave to the C library. With SMALL it has pieces of eight bytes, side by side. */
 #define _GNU_SOURCE
 #include <stddef.h>
 #include <stdint.h>
@@ -15,12 +15,25 @@ static void die(void) {
     if (write(2, text, sizeof text - 1)) _exit(99);
     _exit(99);
 }
+#ifdef SMALL
+static _Alignas(16) struct piece {
+    char bytes[8];
+} pieces[1 << 12];
+static size_t pieces_used;
+static int is_piece(void *at) { return (uintptr_t)at - (uintptr_t)pieces < sizeof pieces; }
+#endif
 static size_t size_of(void *at) {
+#ifdef SMALL
+    if (is_piece(at)) return sizeof *pieces;
+#endif
     if ((uintptr_t)at - (uintptr_t)heap >= sizeof heap) die();
     return ((size_t *)at)[-2];
 }
 /* What was given back last is given again, if it is as large. */
 static void *take(size_t alignment, size_t bytes) {
+#ifdef SMALL
+    if (bytes <= sizeof *pieces && alignment <= 16) return &pieces[__atomic_fetch_add(&pieces_used, 1, __ATOMIC_SEQ_CST) % (1 << 12)];
+#endif
     void *again = __atomic_exchange_n(&last, NULL, __ATOMIC_SEQ_CST);
     bytes = (bytes + 15) & ~(size_t)15;
     if (again && size_of(again) == bytes && !((uintptr_t)again & (alignment - 1))) return again;

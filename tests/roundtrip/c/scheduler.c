@@ -78,6 +78,7 @@ void stage_bytes(int number, const volatile void *at) {
     now_at[1900 + number] = (void *)at;
 }
 void stage_gone(int number) { end_place("bytes", number); }
+char stage_pool[1200] __attribute__((aligned(16)));
 void stage_thing(const char *kind, int number, const volatile void *at) { add_place(kind, number, (void *)at, 1); }
 void stage_finish(int steps) {
     const char *path = getenv("STAGE_TABLE");

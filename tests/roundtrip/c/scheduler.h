@@ -12,6 +12,7 @@ void *stage_at(int variable);
 void stage_remove(int variable);     /* says that a variable isn't there any more */
 void stage_bytes(int number, const volatile void *at);  /* says where 24 bytes are from now on, as places.py has them */
 void stage_gone(int number);         /* says that they aren't there any more */
+extern char stage_pool[];            /* memory whose first byte 16 divides */
 void stage_thing(const char *kind, int number, const volatile void *at);        /* says where a lock or the like is */
 void stage_finish(int steps);        /* waits for all steps, and writes where things were to the file STAGE_TABLE */
 long stage_any(void);                /* a number that the compiler doesn't know */

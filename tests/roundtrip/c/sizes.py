@@ -1,8 +1,8 @@
 """Bytes that programs in C and C++ access in several widths: which names the log has for each access.
 
-A thing of the kind "bytes" is 24 bytes at an address that 16 divides. Each step of it, a "touch", is a form of this module, and its
-events are exact: the class Sizes says which variables there are, as docs/logging-events.md promises, or AERODROME_GRAIN does. In a
-text, $at is the address of the part, $n its bytes, $t a type of so many, $whole the address of the thing, and $i its number.
+A thing of the kind "bytes" is 24 bytes at an address that 16 divides, or 8 in a pool. Each step of it, a "touch", is a form of this
+module, and its events are exact: the class Sizes says which variables there are, as docs/logging-events.md promises, or AERODROME_GRAIN
+does. In a text, $at is the address of the part, $n its bytes, $t a type of so many, $whole the address of the thing, and $i its number.
 """
 from collections import namedtuple
 
@@ -19,13 +19,14 @@ typedef unsigned part4 __attribute__((may_alias));
 typedef unsigned long part8 __attribute__((may_alias));
 typedef int part16 __attribute__((vector_size(16), may_alias));"""
 
-#: Where the bytes are: what stands outside of functions, and what main does first. (Memory is renewed by 16 bytes, so no variable lies
-#: in the 32 bytes of a place. Constructors of global objects have accessed the stack before, in sizes of their own.)
+#: Where the bytes are: what stands outside of functions, and what main does first. (In a pool they lie side by side. Constructors of
+#: global objects have accessed the stack before, in sizes of their own.)
 Where = namedtuple("Where", "name declared born traits")
 DECLARED, BORN = "char $k[32] __attribute__((aligned(16)));", "stage_bytes($i, $k);"
 PLACES = [
     Where("a global", DECLARED, BORN, ""), Where("a static", "static " + DECLARED, BORN, ""),
     Where("main's stack", "", DECLARED + " AnnotateNewMemory(__FILE__, __LINE__, $k, 32); " + BORN, ""), Where("a thread-local of main", "static __thread " + DECLARED, BORN, ""),
+    Where("a pool", "", "AnnotateNewMemory(__FILE__, __LINE__, stage_pool + 24 * $i, 24); stage_bytes($i, stage_pool + 24 * $i);", "pool"),
     Where("heap", "", "stage_bytes($i, malloc(24));", "heap"),
     Where("mmap", "", "stage_bytes($i, mmap(0, 4096, PROT_READ | PROT_WRITE, MAP_PRIVATE | MAP_ANONYMOUS, -1, 0));", "mapped"),
 ]
@@ -121,29 +122,32 @@ class Sizes:
     def of(self, first, end):
         return sorted(one for one in self.variables if one[0] < end and first < one[1])
 
-    def access(self, first, end, is_write):
-        """Returns the first bytes of the variables that an access is logged for."""
-        if self.is_copied and (first, end) == (0, 8):
-            self.variables, self.is_copied = [(0, 8)], False
-        self.is_copied = False
-        self.claim(first, end)
+    def logged(self, first, end, is_write):
+        """Returns the first bytes of the variables that an access is logged for. What a write has of a variable is one of its own."""
         found = self.of(first, end)
         low, high = found[0][0], found[-1][1]
-        if is_write:
-            for one in found:
-                self.variables.remove(one)
-                edges = sorted(set(one) | {cut for cut in (first, end) if one[0] < cut < one[1]})
-                self.variables += zip(edges, edges[1:])
+        for one in found if is_write else ():
+            self.variables.remove(one)
+            edges = sorted(set(one) | {cut for cut in (first, end) if one[0] < cut < one[1]})
+            self.variables += zip(edges, edges[1:])
         return [one[0] for one in self.of(low, high)]
 
-    def copy(self, first, end):
-        """The same of a copy: what it is the first to touch of each four bytes is a variable, and it splits none."""
+    def access(self, first, end, is_write):
+        """Returns the first bytes of the variables that an access at once is logged for."""
+        if self.is_copied and (first, end) == (0, 8):
+            self.variables = [(0, 8)]
+        self.is_copied = False
+        self.claim(first, end)
+        return self.logged(first, end, is_write)
+
+    def copy(self, first, end, is_write):
+        """The same of a copy: what it is the first to touch of each four bytes is a variable."""
         is_whole = (first, end) == (0, 8)
         if not (is_whole and self.is_copied):
             self.is_copied = is_whole and not self.variables
             self.claim(first, min(end, 4))
             self.claim(max(first, 4), end)
-        return [one[0] for one in self.of(first, end)]
+        return self.logged(first, end, is_write)
 
 
 class Bytes(Thing):
@@ -164,7 +168,7 @@ class Bytes(Thing):
         for at in () if self.grain else range(first & -8, end, 8):
             part, stop = max(first - at, 0), min(end - at, 8)
             sizes = self.sizes[at // 8]
-            found += [at + one for one in (sizes.copy(part, stop) if how == "copy" else sizes.access(part, stop, operation == "w"))]
+            found += [at + one for one in (sizes.copy if how == "copy" else sizes.access)(part, stop, operation == "w")]
         return [(operation, part_name(self.name, self.generation, one)) for one in found]
 
 
@@ -209,7 +213,9 @@ def single(program, it):
 
 
 def wide(program, it):
-    """Accesses the first 16 bytes at once."""
+    """Accesses the first 16 bytes at once, if 16 divides their address."""
+    if "pool" in it.traits:
+        return None
     form, text = filled(program, it, WIDE, (program.random.choice("rw"),))
     return Touch(form.name, text, it.events(form.needs, "access", 0, 16))
 
