@@ -2,6 +2,7 @@ package aerodrome.weave;
 
 import static org.objectweb.asm.Opcodes.*;
 
+import aerodrome.Options;
 import aerodrome.hooks.Kind;
 import java.util.ArrayList;
 import java.util.List;
@@ -168,9 +169,17 @@ final class StubWriter {
         if (stub.form >= 0) handleIndex();
         else index(hasObject);
         code.visitVarInsn(ILOAD, stub.site());
-        String given = stub.form >= 0 ? HANDLE + OBJECT + "I" : OBJECT + OBJECT + "J";
-        code.visitMethodInsn(INVOKESTATIC, stub.form >= 0 ? HANDLES : CALLS, "before", "(I" + given + "I)L" + CALL + ";", false);
+        if (stub.form < 0) method();
+        String given = stub.form >= 0 ? HANDLE + OBJECT + "II" : OBJECT + OBJECT + "JILjava/lang/String;";
+        code.visitMethodInsn(INVOKESTATIC, stub.form >= 0 ? HANDLES : CALLS, "before", "(I" + given + ")L" + CALL + ";", false);
         code.visitVarInsn(ASTORE, call);
+    }
+    /** The key of a method that a class of the program may have, or null if none can have it. */
+    private void method() {
+        boolean isOfProgram = Options.covers(stub.call.owner);
+        boolean isOfJdk = stub.call.isStatic() || !isOfProgram && (stub.call.isSpecial() || Kind.isOfVariable(stub.code));
+        if (isOfJdk || !Kind.isOfMethod(stub.code)) code.visitInsn(ACONST_NULL);
+        else code.visitLdcInsn((stub.call.isSpecial() ? stub.call.owner + "." : "") + stub.call.name + stub.call.descriptor);
     }
     /** The first argument if it is an int, or a stamp, the second if it is a long behind an object, else -1. */
     private void index(boolean hasObject) {
@@ -182,10 +191,7 @@ final class StubWriter {
             code.visitVarInsn(LLOAD, stub.firstArgument() + 1);
         else code.visitLdcInsn(-1L);
     }
-    private boolean isStamp() {
-        boolean isLong = arguments.length > 0 && arguments[0] == Type.LONG_TYPE;
-        return isLong && stub.call.owner.equals("java/util/concurrent/locks/StampedLock");
-    }
+    private boolean isStamp() { return arguments.length > 0 && arguments[0] == Type.LONG_TYPE && Kind.isStamped(stub.code); }
     private void handleIndex() {
         if (arguments.length > 1 && arguments[0].getSize() == 1 && arguments[1] == Type.INT_TYPE) code.visitVarInsn(ILOAD, 2);
         else code.visitInsn(ICONST_M1);

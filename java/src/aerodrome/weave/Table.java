@@ -6,7 +6,6 @@ import static org.objectweb.asm.Opcodes.INVOKEVIRTUAL;
 
 import aerodrome.Options;
 import aerodrome.hooks.Kind;
-import aerodrome.names.Fields;
 import java.io.BufferedReader;
 import java.io.IOException;
 import java.io.InputStream;
@@ -15,13 +14,17 @@ import java.nio.charset.StandardCharsets;
 import java.util.ArrayList;
 import java.util.Arrays;
 import java.util.HashMap;
+import java.util.HashSet;
 import java.util.List;
 import java.util.Locale;
 import java.util.Map;
+import java.util.Set;
 
 /** What becomes what, as the file `table` has it. */
 public final class Table {
     private static final String ANY = "*";
+    /** The package of the classes that a program may extend. */
+    private static final String EXTENDED = "java/util/";
     /** The only class whose static methods are logged. */
     private static final String STATIC_OWNER = "java/util/concurrent/locks/LockSupport";
 
@@ -53,12 +56,23 @@ public final class Table {
 
     /** By the name of a class, as a/b/C. */
     private final Map<String, List<Row>> rows;
+    /** The names of the methods that a class of the program may have from one of the JDK's, and what such names begin with. */
+    private final Set<String> names = new HashSet<>(), beginnings = new HashSet<>();
     /** The methods of the JDK that call a hook. */
     final List<JdkHook> hooks;
 
     private Table(Map<String, List<Row>> rows, List<JdkHook> hooks) {
         this.rows = rows;
         this.hooks = hooks;
+        rows.forEach((owner, all) -> all.forEach(row -> noteNames(owner, row)));
+    }
+
+    private void noteNames(String owner, Row row) {
+        if (owner.startsWith(EXTENDED)) for (String one : row.methods) noteName(one);
+    }
+    private void noteName(String method) {
+        if (method.endsWith("*")) beginnings.add(method.substring(0, method.length() - 1));
+        else names.add(method.indexOf('(') < 0 ? method : method.substring(0, method.indexOf('(')));
     }
 
     public static Table read() throws IOException {
@@ -116,9 +130,13 @@ public final class Table {
     /** The row of a method that the class may have from one of the JDK: the method's name says so, or what the class extends. */
     private Row inherited(ClassLoader by, int opcode, String owner, String name, String descriptor) {
         Row row = row(ANY, name, descriptor);
-        if (row != null) return row;
-        String base = Options.covers(owner) ? Fields.base(by, owner) : opcode == INVOKESPECIAL ? owner : null;
-        row = base == null ? null : row(base, name, descriptor);
-        return row != null && row.kind.isCollection() ? row : null;
+        if (row != null || !mayBeNamed(name)) return row;
+        String base = Options.covers(owner) ? Bases.base(by, owner) : opcode == INVOKESPECIAL ? owner : null;
+        return base == null ? null : row(base, name, descriptor);
+    }
+    /** Returns whether some row has methods of this name, so that the files of classes are read for no others. */
+    private boolean mayBeNamed(String name) {
+        for (String one : beginnings) if (name.startsWith(one)) return true;
+        return names.contains(name);
     }
 }
