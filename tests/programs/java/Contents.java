@@ -16,6 +16,7 @@ import java.util.HashMap;
 import java.util.HashSet;
 import java.util.Hashtable;
 import java.util.Iterator;
+import java.util.LinkedHashMap;
 import java.util.List;
 import java.util.Map;
 import java.util.NavigableSet;
@@ -93,6 +94,18 @@ public class Contents {
         table.keys(); //: r(Hashtable@)
         table.elements(); //: r(Hashtable@)
         table.remove("a"); //: w(Hashtable@)
+    }
+
+    static void inOrderOfAccess() {
+        Map<Object, Object> it = new LinkedHashMap<>(9, 0.75f, true), plain = new LinkedHashMap<>();
+        it.put("a", 1); //: w(LinkedHashMap@)
+        it.get("a"); //: w(LinkedHashMap@)
+        it.get("b"); //: r(LinkedHashMap@)
+        it.getOrDefault("a", 2); //: w(LinkedHashMap@)
+        it.containsKey("a"); //: r(LinkedHashMap@)
+        Collections.synchronizedMap(it).get("a"); //: w(LinkedHashMap@)
+        plain.put("a", 1); //: w(LinkedHashMap@)
+        plain.get("a"); //: r(LinkedHashMap@)
     }
 
     static void stacks() {
@@ -199,6 +212,7 @@ public class Contents {
     public static void main(String[] words) throws Exception {
         bits();
         wholes();
+        inOrderOfAccess();
         stacks();
         properties();
         mapsForSeveral();

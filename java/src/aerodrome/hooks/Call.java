@@ -157,6 +157,9 @@ public final class Call {
                 Views.gave(of, result);
                 Events.write(me, Events.READ, of, site);
                 return;
+            case COLLECTION_GET:
+                Events.write(me, result != null && Views.isInOrderOfAccess(of) ? Events.WRITE : Events.READ, of, site);
+                return;
             case READ_AFTER: Log.write(variable(Events.READ)); return;
             case WRITE_AFTER: write(Events.WRITE); return;
             case LOCK: Locks.locked(me, receiver, site); return;

@@ -64,6 +64,8 @@ public enum Kind {
     PULL(Group.QUEUE), PULL_LAST(Group.QUEUE), PURGE(Group.QUEUE),
 
     COLLECTION_READ(Group.COLLECTION), COLLECTION_WRITE(Group.COLLECTION),
+    /** A read of a key, which is a write if it moves the key: a map in the order of accesses does so. */
+    COLLECTION_GET(Group.COLLECTION),
     /** A read by equals or hashCode, unless the class has those of Object. */
     COLLECTION_COMPARE(Group.COLLECTION),
     /** By an iterator. */

@@ -11,6 +11,7 @@ import java.security.PrivilegedAction;
 import java.util.Collection;
 import java.util.HashSet;
 import java.util.Iterator;
+import java.util.LinkedHashMap;
 import java.util.Map;
 import java.util.Properties;
 import java.util.TreeSet;
@@ -33,6 +34,7 @@ public final class Views {
 
     /** In each of these classes, the field of the map that it is made of. */
     private static VarHandle ofHashSet, ofTreeSet, ofSkipListSet, ofProperties;
+    private static VarHandle inOrderOfAccess;
 
     private Views() { }
 
@@ -42,6 +44,7 @@ public final class Views {
         ofTreeSet = handle(TreeSet.class, "m");
         ofSkipListSet = handle(ConcurrentSkipListSet.class, "m");
         ofProperties = handle(Properties.class, "map");
+        inOrderOfAccess = handle(LinkedHashMap.class, "accessOrder");
     }
     private static VarHandle handle(Class<?> of, String name) throws ReflectiveOperationException {
         Field field = of.getDeclaredField(name);
@@ -103,6 +106,9 @@ public final class Views {
         for (Object next; (next = BEHIND.get(origin.getClass()).of(origin)) != null; ) origin = next;
         return origin == receiver ? receiver : owner(origin);
     }
+
+    /** Returns whether it is a map that a look at a key changes, as the caches are that remove the key that wasn't used for longest. */
+    static boolean isInOrderOfAccess(Object map) { return map instanceof LinkedHashMap && (boolean) inOrderOfAccess.get(map); }
 
     static boolean isOpaque(Object collection) { return BEHIND.get(collection.getClass()).isOpaque; }
 
