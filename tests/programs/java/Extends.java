@@ -4,6 +4,7 @@ import java.util.HashMap;
 import java.util.List;
 import java.util.Map;
 import java.util.concurrent.ConcurrentHashMap;
+import java.util.concurrent.ConcurrentMap;
 import java.util.concurrent.CountDownLatch;
 import java.util.concurrent.CyclicBarrier;
 import java.util.concurrent.LinkedBlockingQueue;
@@ -115,6 +116,11 @@ public class Extends {
             return super.put(key, value + total); //: r(Extends.total) r(Extends$Cache@.clear) w(Extends$Cache@.key#) w(Extends$Cache@.all#)
         }
     }
+    /** An interface that extends one of the JDK. */
+    interface Counts extends ConcurrentMap<String, Integer> {
+        default int count(String key) { return getOrDefault(key, 0); } //: r(Extends$Numbers@.clear) r(Extends$Numbers@.key#)
+    }
+    static class Numbers extends ConcurrentHashMap<String, Integer> implements Counts { }
     static class Mailbox extends LinkedBlockingQueue<String> { }
     /** Its name is that of a class of views. */
     static class Values extends ConcurrentHashMap<String, String> { }
@@ -138,6 +144,9 @@ public class Extends {
         cache.put("b", "c");
         Map<String, String> map = cache;
         map.put("d", "e");
+        Counts counts = new Numbers();
+        counts.put("a", 1); //: r(Extends$Numbers@.clear) w(Extends$Numbers@.key#) w(Extends$Numbers@.all#)
+        counts.count("a");
         Mailbox mailbox = new Mailbox();
         mailbox.add("a"); //: w(Extends$Mailbox@.item#)
         mailbox.poll(); //: r(Extends$Mailbox@.item#)

@@ -3,6 +3,7 @@ package aerodrome.names;
 import aerodrome.Options;
 import java.lang.ref.WeakReference;
 import java.lang.reflect.Modifier;
+import java.util.ArrayList;
 import java.util.List;
 import java.util.Map;
 import java.util.Set;
@@ -118,10 +119,14 @@ public final class Fields {
         return null;
     }
 
-    /** The class that such a class extends; null where that isn't known. */
-    public static String above(ClassLoader by, String of) {
+    /** Returns the class that such a class extends, and then its interfaces; an empty list if the class isn't known. */
+    public static List<String> above(ClassLoader by, String of) {
         Known known = seen(by, of);
-        return known == null ? null : known.above;
+        if (known == null || known.above == null) return List.of();
+        List<String> above = new ArrayList<>();
+        above.add(known.above);
+        above.addAll(List.of(known.interfaces));
+        return above;
     }
 
     /** What the field of an object is called before the object's number: `Bank.balance`. */

@@ -1,5 +1,6 @@
 package aerodrome.weave;
 
+import static org.objectweb.asm.Opcodes.INVOKEINTERFACE;
 import static org.objectweb.asm.Opcodes.INVOKESPECIAL;
 import static org.objectweb.asm.Opcodes.INVOKESTATIC;
 import static org.objectweb.asm.Opcodes.INVOKEVIRTUAL;
@@ -124,6 +125,7 @@ public final class Table {
         if (opcode == INVOKESTATIC && !owner.equals(STATIC_OWNER)) return 0;
         Row row = opcode == INVOKESPECIAL ? null : row(owner, name, descriptor);
         if (row == null && (opcode == INVOKEVIRTUAL || opcode == INVOKESPECIAL)) row = inherited(by, opcode, owner, name, descriptor);
+        if (row == null && opcode == INVOKEINTERFACE) row = ofInterfaces(by, owner, name, descriptor);
         return row == null || row.kind.isContents() && !Options.collections ? 0 : row.code;
     }
 
@@ -133,6 +135,15 @@ public final class Table {
         if (row != null || !mayBeNamed(name)) return row;
         String base = Options.covers(owner) ? Bases.base(by, owner) : opcode == INVOKESPECIAL ? owner : null;
         return base == null ? null : row(base, name, descriptor);
+    }
+    /** Returns the row of a method that an interface of the program has from one of the JDK, or null. */
+    private Row ofInterfaces(ClassLoader by, String owner, String name, String descriptor) {
+        if (!Options.covers(owner) || !mayBeNamed(name)) return null;
+        for (String one : Bases.interfaces(by, owner)) {
+            Row row = row(one, name, descriptor);
+            if (row != null) return row;
+        }
+        return null;
     }
     /** Returns whether some row has methods of this name, so that the files of classes are read for no others. */
     private boolean mayBeNamed(String name) {
