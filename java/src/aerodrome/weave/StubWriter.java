@@ -38,7 +38,7 @@ final class StubWriter {
 
     /** Methods of collections that don't take the monitor of those that have one. */
     private static final Set<String> WITHOUT_MONITOR = Set.of("iterator", "descendingIterator", "listIterator", "stream",
-            "parallelStream", "spliterator", "elements", "keys", "keySet", "entrySet", "values");
+            "parallelStream", "spliterator", "elements", "keys", "keySet", "entrySet", "values", "reversed");
 
     private final MethodVisitor code;
     private final Stub stub;

@@ -134,6 +134,8 @@ public final class Table {
         Row row = row(ANY, name, descriptor);
         if (row != null || !mayBeNamed(name)) return row;
         String base = Options.covers(owner) ? Bases.base(by, owner) : opcode == INVOKESPECIAL ? owner : null;
+        // A class between the two that isn't instrumented has no rows.
+        while (base != null && !base.startsWith("java/")) base = Bases.base(by, base);
         return base == null ? null : row(base, name, descriptor);
     }
     /** Returns the row of a method that an interface of the program has from one of the JDK, or null. */
