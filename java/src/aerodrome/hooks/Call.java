@@ -33,10 +33,9 @@ public final class Call {
     private boolean wasWithin;
 
     /** @param index of the element that is accessed, or an offset; below 0: none */
-    Call(LoggedThread me, Object receiver, Object of, Object argument, long index, int site) {
+    Call(LoggedThread me, Object receiver, Object argument, long index, int site) {
         this.me = me;
         this.receiver = receiver;
-        this.of = of;
         this.argument = argument;
         this.index = index;
         this.site = site;
@@ -44,8 +43,10 @@ public final class Call {
 
     // ---- before the call
 
-    void before(Kind kind) {
+    /** @param of the collection or map behind the receiver */
+    void before(Kind kind, Object of) {
         this.kind = kind;
+        this.of = of;
         switch (kind) {
             case READ: case STATE_READ: Log.hold(variable(Events.READ)); return;
             case WRITE: case STATE_WRITE: Log.hold(variable(Events.WRITE)); return;

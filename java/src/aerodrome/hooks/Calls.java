@@ -31,20 +31,25 @@ public final class Calls {
     }
 
     /**
-     * Begins a call. What it returns goes to `after` or `failed`, and is null where nothing is logged: also if a class of the program
-     * has the method, because then the events of the method's code count, such as those of a call of the JDK's method.
+     * Returns the code of a call of a method that a class of the program may have: 0 if one has it, because then the events of the
+     * method's code count, such as those of a call of the JDK's method.
      *
-     * @param method that a class of the program may have, as Methods.isOwn takes it, or null if none can
+     * @param method as Methods.isOwn takes it
      */
-    public static Call before(int code, Object receiver, Object argument, long index, int site, String method) {
+    public static int code(int code, Object receiver, String method) {
+        return Log.on && receiver != null && Methods.isOwn(receiver.getClass(), method) ? 0 : code;
+    }
+
+    /** Before a call. What it gives goes to `after` or `failed`, and is null where nothing is logged. */
+    public static Call before(int code, Object receiver, Object argument, long index, int site) {
         LoggedThread me = receiver == null ? null : LoggedThread.logging();
-        if (me == null || method != null && Methods.isOwn(receiver.getClass(), method)) return null;
+        if (me == null) return null;
         Object of = Kind.kind(code).mayBeOfView() ? Views.origin(receiver) : receiver;
         Kind kind = kind(code, receiver, of, argument);
         if (kind == Kind.NOTHING || me.initializing > 0 && kind.isAccess()) return null;
         Stir.place();
-        Call call = new Call(me, receiver, of, argument, index, site);
-        call.before(kind);
+        Call call = new Call(me, receiver, argument, index, site);
+        call.before(kind, of);
         return call;
     }
 

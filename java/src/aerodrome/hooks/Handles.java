@@ -54,8 +54,8 @@ public final class Handles {
         // What the handle itself makes at its first access in this mode is made by the question whether there is such a mode.
         boolean isThere = field instanceof FieldName ? ((FieldName) field).isOf(first) : first != null;
         if (!isThere || !handle.isAccessModeSupported(forms[form].mode)) return null;
-        Call call = new Call(me, handle, handle, first, index, site);
-        call.before(isDirect(handle) ? forms[form].kind : forms[form].kind.apart());
+        Call call = new Call(me, handle, first, index, site);
+        call.before(isDirect(handle) ? forms[form].kind : forms[form].kind.apart(), handle);
         return call;
     }
 

@@ -160,7 +160,7 @@ final class StubWriter {
     }
 
     private void before() {
-        code.visitLdcInsn(stub.form >= 0 ? stub.form : stub.code);
+        code();
         if (!stub.call.isStatic()) code.visitVarInsn(ALOAD, 0);
         else code.visitMethodInsn(INVOKESTATIC, "java/lang/Thread", "currentThread", "()Ljava/lang/Thread;", false);
         boolean hasObject = arguments.length > 0 && arguments[0].getSort() >= Type.ARRAY;
@@ -169,17 +169,19 @@ final class StubWriter {
         if (stub.form >= 0) handleIndex();
         else index(hasObject);
         code.visitVarInsn(ILOAD, stub.site());
-        if (stub.form < 0) method();
-        String given = stub.form >= 0 ? HANDLE + OBJECT + "II" : OBJECT + OBJECT + "JILjava/lang/String;";
-        code.visitMethodInsn(INVOKESTATIC, stub.form >= 0 ? HANDLES : CALLS, "before", "(I" + given + ")L" + CALL + ";", false);
+        String given = stub.form >= 0 ? HANDLE + OBJECT + "I" : OBJECT + OBJECT + "J";
+        code.visitMethodInsn(INVOKESTATIC, stub.form >= 0 ? HANDLES : CALLS, "before", "(I" + given + "I)L" + CALL + ";", false);
         code.visitVarInsn(ASTORE, call);
     }
-    /** The key of a method that a class of the program may have, or null if none can have it. */
-    private void method() {
+    /** Pushes the form, or the code, which depends on the receiver if a class of the program may have the method. */
+    private void code() {
+        code.visitLdcInsn(stub.form >= 0 ? stub.form : stub.code);
         boolean isOfProgram = Options.covers(stub.call.owner);
         boolean isOfJdk = stub.call.isStatic() || !isOfProgram && (stub.call.isSpecial() || Kind.isOfVariable(stub.code));
-        if (isOfJdk || !Kind.isOfMethod(stub.code)) code.visitInsn(ACONST_NULL);
-        else code.visitLdcInsn((stub.call.isSpecial() ? stub.call.owner + "." : "") + stub.call.name + stub.call.descriptor);
+        if (stub.form >= 0 || isOfJdk || !Kind.isOfMethod(stub.code)) return;
+        code.visitVarInsn(ALOAD, 0);
+        code.visitLdcInsn((stub.call.isSpecial() ? stub.call.owner + "." : "") + stub.call.name + stub.call.descriptor);
+        code.visitMethodInsn(INVOKESTATIC, CALLS, "code", "(I" + OBJECT + "Ljava/lang/String;)I", false);
     }
     /** The first argument if it is an int, or a stamp, the second if it is a long behind an object, else -1. */
     private void index(boolean hasObject) {
