@@ -108,7 +108,7 @@ MAP = {
         giving("computeIfAbsent to null", DROP, "computeIfAbsent($key, q -> null)", "null", "hashed"),
         giving("computeIfPresent of an absent key", DROP, "computeIfPresent($key, (q, s) -> 9)", "null", "hashed"),
         giving("compute of null to null", DROP, "compute($key, (q, s) -> null)", "null", "hashed")]),
-    "view": forms(looks(["size()", "isEmpty()", "keySet()", "values()", "entrySet()", "containsValue(3)", "hashCode()", "equals(Map.of())"])
+    "view": forms(looks(["size()", "isEmpty()", "keySet()", "values()", "entrySet()", "containsValue(3)"]) + looks(["hashCode()", "equals(Map.of())"], "-typed")
                   + calls(["forEachKey(9, q -> Stage.use(q))", "forEachValue(9, q -> Stage.use(q))", "forEachEntry(9, q -> Stage.use(q))"], "hashed -typed")
                   + calls(["forEach((q, s) -> Stage.use(q))"])
                   + looks(["mappingCount()", "keys()", "elements()", "contains(4)", "search(9, (q, s) -> null)"], "hashed -typed")
