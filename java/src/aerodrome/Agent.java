@@ -1,8 +1,8 @@
 package aerodrome;
 
-import aerodrome.hooks.Iterators;
 import aerodrome.hooks.Locks;
 import aerodrome.hooks.Monitors;
+import aerodrome.hooks.Views;
 import aerodrome.log.Log;
 import aerodrome.log.LoggedThread;
 import aerodrome.log.Sink;
@@ -75,8 +75,8 @@ public final class Agent {
                 "java.util", Set.of(own));
         with.redefineModule(Object.class.getModule(), Set.of(), Map.of(), opened, Set.of(), Map.of());
         Locks.start();
-        Iterators.start();
         Monitors.start();
+        Views.start();
         Table table = Table.read();
         JdkWeaver jdk = new JdkWeaver(table);
         with.addTransformer(jdk, true);

@@ -14,8 +14,8 @@ from traces import Trace
 FEATURES = ("twice", "semaphore", "latch", "queue", "barrier", "message", "condition", "deque", "adder", "map", "future", "exchange", "park",
             "again", "permits", "looks", "scopes")
 QUICK = ["-XX:+UseSerialGC", "-XX:TieredStopAtLevel=1"]
-FILES = ("Stage", "Mark", "Twin", "Deep")
-NO_BLOCKS = "main,run,call,<init>,<clinit>,lower,holding,lock,unlock,tryLock,lockInterruptibly,newCondition,Mark.step,$p.thread*,$p.body*,$p.lambda$*,B*,Twin.*"
+FILES = ("Stage", "Mark", "Twin", "Deep", "Own")
+NO_BLOCKS = "main,run,call,<init>,<clinit>,lower,holding,lock,unlock,tryLock,lockInterruptibly,newCondition,Mark.step,$p.thread*,$p.body*,$p.lambda$*,B*,Twin.*,Own$*"
 
 
 def compiled(program, folder):

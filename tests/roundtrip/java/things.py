@@ -82,6 +82,7 @@ SUMS = ["intValue()", "doubleValue()", "toString()", "longValue()", "floatValue(
 ADDERS = [adder(name, new, ["add(2)", "increment()", "decrement()"], ["sum()"], ["sumThenReset()", "reset()"])
           for name, new in (("a LongAdder", "new LongAdder()"), ("a class that extends LongAdder", "new LongAdder() { }"))] + [
     adder("a DoubleAdder", "new DoubleAdder()", ["add(2)"], ["sum()"], ["sumThenReset()", "reset()"])] + [
+    adder("a class that extends LongAdder, an Own.Sums", "new Own.Sums()", ["add(2)", "increment()", "decrement()"], ["sum()"], ["sumThenReset()", "reset()"])] + [
     adder("a " + name, "new %s((q, s) -> q + s, 0)" % name, ["accumulate(3)"], ["get()"], ["getThenReset()", "reset()"])
     for name in ("LongAccumulator", "DoubleAccumulator")]
 
@@ -107,20 +108,24 @@ MAP = {
         giving("computeIfAbsent to null", DROP, "computeIfAbsent($key, q -> null)", "null", "hashed"),
         giving("computeIfPresent of an absent key", DROP, "computeIfPresent($key, (q, s) -> 9)", "null", "hashed"),
         giving("compute of null to null", DROP, "compute($key, (q, s) -> null)", "null", "hashed")]),
-    "view": forms(looks(["size()", "isEmpty()", "keySet()", "values()", "entrySet()", "containsValue(3)"]) + calls(["forEach((q, s) -> Stage.use(q))"])
+    "view": forms(looks(["size()", "isEmpty()", "keySet()", "values()", "entrySet()", "containsValue(3)"]) + looks(["hashCode()", "equals(Map.of())"], "-typed")
+                  + calls(["forEachKey(9, q -> Stage.use(q))", "forEachValue(9, q -> Stage.use(q))", "forEachEntry(9, q -> Stage.use(q))"], "hashed -typed")
+                  + calls(["forEach((q, s) -> Stage.use(q))"])
                   + looks(["mappingCount()", "keys()", "elements()", "contains(4)", "search(9, (q, s) -> null)"], "hashed -typed")
                   + looks(["floorKey($key)", "higherEntry($key)", "headMap($key)", "descendingMap()", "navigableKeySet()", "firstEntry()"], "sorted")),
     "wipe": forms(calls(["clear()", "putAll(Map.of($key, 2))", "replaceAll((q, s) -> 4)"]) + calls(["pollFirstEntry()"], "sorted"))}
 SET = {
     "store": forms([("add", DROP + "$k.add($key);"), ("remove", "$k.remove($key);"), ("remove of a present key", PUT + "$k.remove($key);")]),
     "fetch": forms(looks(["contains($key)"]) + [("add of a present key", PUT + "$k.add($key);")]),
-    "view": forms(looks(["size()", "isEmpty()", "iterator()", "toArray()", "containsAll(List.of())"]) + calls(["forEach(q -> Stage.use(q))"])
+    "view": forms(looks(["size()", "isEmpty()", "iterator()", "toArray()", "containsAll(List.of())", "hashCode()", "equals(Set.of())"]) + calls(["forEach(q -> Stage.use(q))"])
                   + looks(["floor($key)", "higher($key)", "headSet($key)", "descendingSet()"], "sorted")),
     "wipe": forms(calls(["clear()", "removeIf(q -> true)", "addAll(List.of($key))", "retainAll(List.of())"]) + looks(["pollFirst()"], "sorted"))}
 HASH, SKIP = "ConcurrentHashMap", "ConcurrentSkipListMap"
 MAPS = [Other("a %s as a %s" % (HASH, kind), "new %s<Object, Object>()" % HASH, "%s<Object, Object>" % kind, MAP, HASH + r"@\d+", traits)
         for kind, traits in ((HASH, "hashed"), ("ConcurrentMap", "hashed typed"), ("Map", "hashed typed"))] + [
     Other("a class that extends " + HASH, "new %s<Object, Object>() { }" % HASH, "Map<Object, Object>", MAP, r"P\d+\$\d+@\d+", "typed"),
+    Other("a class that extends %s by its own type" % HASH, "new Own.Table()", "Own.Table", MAP, r"Own\$Table@\d+", "typed"),
+    Other("a set made of a " + HASH, "Collections.newSetFromMap(new %s<Object, Boolean>())" % HASH, "Set<Object>", SET, HASH + r"@\d+", "hashed"),
     Other("a " + SKIP, "new %s<Object, Object>()" % SKIP, SKIP + "<Object, Object>", MAP, SKIP + r"@\d+", "sorted"),
     Other("newKeySet", HASH + ".<Object>newKeySet()", "Set<Object>", SET, HASH + r"@\d+", "hashed"),
     Other("newKeySet by its own type", HASH + ".<Object>newKeySet()", HASH + ".KeySetView<Object, Boolean>", SET, HASH + r"@\d+", "hashed"),
@@ -160,13 +165,18 @@ PARK = Other("a thread", "", "Thread", {
 
 OTHERS = {
     "semaphore": [Other("a Semaphore", "new Semaphore($first)", "Semaphore", SEMAPHORE, r"Semaphore@\d+"),
-                  Other("a fair Semaphore", "new Semaphore($first, true)", "Semaphore", SEMAPHORE, r"Semaphore@\d+")],
-    "latch": [Other("a CountDownLatch", "new CountDownLatch(2)", "CountDownLatch", LATCH, r"CountDownLatch@\d+")],
+                  Other("a fair Semaphore", "new Semaphore($first, true)", "Semaphore", SEMAPHORE, r"Semaphore@\d+"),
+                  Other("a class that extends Semaphore", "new Own.Permits($first)", "Own.Permits", SEMAPHORE, r"Own\$Permits@\d+")],
+    "latch": [Other("a CountDownLatch", "new CountDownLatch(2)", "CountDownLatch", LATCH, r"CountDownLatch@\d+"),
+              Other("a class that extends CountDownLatch", "new Own.Gate(2)", "Own.Gate", LATCH, r"Own\$Gate@\d+")],
     "queue": [queue("LinkedBlockingQueue", "blocking equal"), queue("ArrayBlockingQueue", "blocking equal", "9"),
               queue("LinkedBlockingDeque", "blocking deque equal"), queue("ConcurrentLinkedQueue", "equal"),
               queue("ConcurrentLinkedDeque", "deque equal"), queue("LinkedTransferQueue", "blocking equal"),
               queue("PriorityBlockingQueue", "blocking"), queue("LinkedBlockingQueue", "blocking equal", "", "BlockingQueue"),
-              queue("ConcurrentLinkedQueue", "equal", "", "Queue"), queue("ArrayBlockingQueue", "equal", "9", "Queue")],
+              queue("ConcurrentLinkedQueue", "equal", "", "Queue"), queue("ArrayBlockingQueue", "equal", "9", "Queue"),
+              Other("a class that extends LinkedBlockingQueue", "new Own.Mailbox()", "Own.Mailbox", QUEUE, r"Own\$Mailbox@\d+", "blocking equal"),
+              Other("a checked queue", "Collections.checkedQueue(new LinkedBlockingQueue<Object>(), Object.class)", "Queue<Object>", QUEUE,
+                    r"LinkedBlockingQueue@\d+", "equal")],
     "deque": [queue("LinkedBlockingDeque", "blocking deque equal"), queue("ConcurrentLinkedDeque", "deque equal"),
               queue("LinkedBlockingDeque", "blocking deque equal", "", "BlockingDeque"), queue("ConcurrentLinkedDeque", "deque equal", "", "Deque")],
     "barrier": BARRIERS, "message": MESSAGES, "adder": ADDERS, "map": MAPS, "future": FUTURES, "exchange": EXCHANGERS}

@@ -6,25 +6,28 @@ import aerodrome.log.LoggedThread;
 import aerodrome.names.FieldName;
 import aerodrome.names.Numbers;
 import java.lang.invoke.VarHandle;
-import java.util.Iterator;
 import java.util.NoSuchElementException;
 import java.util.concurrent.ConcurrentHashMap;
 import java.util.concurrent.CountDownLatch;
 import java.util.concurrent.Phaser;
+import java.util.concurrent.atomic.AtomicIntegerArray;
+import java.util.concurrent.atomic.AtomicLongArray;
+import java.util.concurrent.atomic.AtomicReferenceArray;
 import java.util.concurrent.locks.StampedLock;
 
 /** A call that is logged, from before it to behind it. */
 public final class Call {
     private final LoggedThread me;
     private final Object receiver, argument;
+    /** The collection or map behind the receiver, or that of an iterator; the receiver itself, if it is neither. */
+    private Object of;
     private final long index;
     private final int site;
     private Kind kind;
     /** How often the lock was held that the call gives back. */
     private int times;
-    /** Of a call of a queue, or of an iterator of one, which is given then. */
+    /** Of a call of a queue, or of an iterator of one. */
     private Queues.Before queue;
-    private Object iterated;
     /** In which it arrived at a phaser. */
     private int phase;
     private boolean wasWithin;
@@ -40,8 +43,10 @@ public final class Call {
 
     // ---- before the call
 
-    void before(Kind kind) {
+    /** @param of the collection or map behind the receiver */
+    void before(Kind kind, Object of) {
         this.kind = kind;
+        this.of = of;
         switch (kind) {
             case READ: case STATE_READ: Log.hold(variable(Events.READ)); return;
             case WRITE: case STATE_WRITE: Log.hold(variable(Events.WRITE)); return;
@@ -65,23 +70,23 @@ public final class Call {
                 return;
             case STAMPED: beforeStamped(); return;
             case WRITE_BEFORE: Log.write(variable(Events.WRITE)); return;
-            case COLLECTION_WRITE: Events.write(me, Events.WRITE, Views.origin(receiver), site); return;
+            case COLLECTION_WRITE: Events.write(me, Events.WRITE, of, site); return;
             case UNLOCK: Locks.unlocking(me, receiver, site); return;
             case WAIT: times = Thread.holdsLock(receiver) ? Events.release(me, receiver, Integer.MAX_VALUE, site) : 0; return;
             case AWAIT: times = Locks.giveBack(me, receiver, site); return;
             case RELEASE: Permits.of(me, receiver).release(me, receiver, permits(), site); return;
             case ACQUIRE: case ACQUIRE_IF_TRUE: case ACQUIRE_ALL: Permits.of(me, receiver); return;
             case SEND: case SEND_FIRST: case HAND: case HAND_OVER:
-                queue = Queues.of(receiver).put(me, receiver, argument, kind, site);
+                queue = Queues.of(of).put(me, of, argument, kind, site);
                 return;
-            case SEND_MANY: queue = Queues.of(receiver).putMany(me, receiver, site); return;
-            case RECEIVE: case RECEIVE_LAST: case PULL: case PULL_LAST: case PURGE: queue = Queues.of(receiver).take(); return;
-            case DRAIN: queue = Queues.of(receiver).drain(argument); return;
-            case PEEK: case PEEK_LAST: case LOOK: case COUNT: queue = Queues.of(receiver).look(); return;
+            case SEND_MANY: queue = Queues.of(of).putMany(me, of, site); return;
+            case RECEIVE: case RECEIVE_LAST: case PULL: case PULL_LAST: case PURGE: queue = Queues.of(of).take(); return;
+            case DRAIN: queue = Queues.of(of).drain(argument); return;
+            case PEEK: case PEEK_LAST: case LOOK: case COUNT: queue = Queues.of(of).look(); return;
             case UNPARK:
                 if (argument != null) Parts.write(me, argument, Parts.Way.ADDS, site);
                 return;
-            case KEY_WRITE: case WHOLE_WRITE: Maps.write(me, kind, receiver, argument, site); return;
+            case KEY_WRITE: case WHOLE_WRITE: Maps.write(me, kind, of, argument, site); return;
             case KEY_IF_ABSENT: case KEY_WITHIN: beforeChange(); return;
             case ITERATOR_WRITE: beforeIterator(); return;
             default:
@@ -101,13 +106,13 @@ public final class Call {
         boolean isIfAbsent = kind == Kind.KEY_IF_ABSENT;
         kind = receiver.getClass() == ConcurrentHashMap.class ? Kind.KEY_WITHIN
                 : isIfAbsent && argument != null && hasKey() ? Kind.KEY_READ : Kind.KEY_WRITE;
-        if (kind == Kind.KEY_WRITE) Maps.write(me, kind, receiver, argument, site);
+        if (kind == Kind.KEY_WRITE) Maps.write(me, kind, of, argument, site);
     }
     /** Asks the map or set without logging what methods of the program do for the answer: the program hasn't asked. */
     private boolean hasKey() {
         me.isQuiet = true;
         try {
-            return Maps.hasKey(receiver, argument);
+            return Maps.hasKey(of, argument);
         } finally {
             me.isQuiet = false;
         }
@@ -116,16 +121,14 @@ public final class Call {
     /** Within the call: the key is changed, or only looked at. */
     void within(boolean isChanged) {
         wasWithin = true;
-        if (Log.on) Maps.write(me, isChanged ? Kind.KEY_WRITE : Kind.KEY_READ, receiver, argument, site);
+        if (Log.on) Maps.write(me, isChanged ? Kind.KEY_WRITE : Kind.KEY_READ, of, argument, site);
     }
 
     private void beforeIterator() {
-        Object of = Iterators.collection(receiver);
-        if (of == null || Maps.hasKeys(of)) return;
-        if (Calls.isQueue(of)) {
-            iterated = of;
-            queue = Queues.of(of).take();
-        } else Events.write(me, Events.WRITE, of, site);
+        of = Iterators.collection(receiver);
+        if (of == null || Maps.hasKeys(of) || !Views.isOpaque(of)) return;
+        if (Calls.isQueue(of)) queue = Queues.of(of).take();
+        else Events.write(me, Events.WRITE, of, site);
     }
 
     // ---- behind the call
@@ -152,9 +155,11 @@ public final class Call {
                 if (isTrue) write(Events.WRITE);
                 return;
             case COLLECTION_READ:
-                Object of = Views.origin(receiver);
-                if (result instanceof Iterator) Iterators.made(of);
+                Views.gave(of, result);
                 Events.write(me, Events.READ, of, site);
+                return;
+            case COLLECTION_GET:
+                Events.write(me, result != null && Views.isInOrderOfAccess(of) ? Events.WRITE : Events.READ, of, site);
                 return;
             case READ_AFTER: Log.write(variable(Events.READ)); return;
             case WRITE_AFTER: write(Events.WRITE); return;
@@ -169,25 +174,29 @@ public final class Call {
             case ACQUIRE_IF_TRUE:
                 if (isTrue) Permits.of(me, receiver).acquire(me, receiver, permits(), site);
                 return;
-            case SEND_MANY: Queues.of(receiver).wasPut(null, true, queue); return;
-            case SEND: case SEND_FIRST: case HAND: Queues.of(receiver).wasPut(argument, isTrue, queue); return;
-            case HAND_OVER: Queues.of(receiver).handedOver(me, receiver, argument, result, queue, site); return;
-            case RECEIVE: case RECEIVE_LAST: Queues.of(receiver).took(me, receiver, result, isLast(), queue, site); return;
-            case DRAIN: Queues.of(receiver).drained(me, receiver, number, queue, site); return;
-            case PEEK: case PEEK_LAST: Queues.of(receiver).peeked(me, receiver, result, isLast(), queue, site); return;
+            case SEND_MANY: Queues.of(of).wasPut(null, true, queue); return;
+            case SEND: case SEND_FIRST: case HAND: Queues.of(of).wasPut(argument, isTrue, queue); return;
+            case HAND_OVER: Queues.of(of).handedOver(me, of, argument, result, queue, site); return;
+            case RECEIVE: case RECEIVE_LAST: Queues.of(of).took(me, of, result, isLast(), queue, site); return;
+            case DRAIN: Queues.of(of).drained(me, of, number, queue, site); return;
+            case PEEK: case PEEK_LAST: Queues.of(of).peeked(me, of, result, isLast(), queue, site); return;
             case PULL: case PULL_LAST:
-                Queues.of(receiver).pulled(me, receiver, isTrue ? argument : null, isLast(), queue, site);
+                Queues.of(of).pulled(me, of, isTrue ? argument : null, isLast(), queue, site);
                 return;
-            case PURGE: Queues.of(receiver).purged(me, receiver, queue, site); return;
+            case PURGE: Queues.of(of).purged(me, of, queue, site); return;
             case ITERATOR_WRITE:
-                if (iterated != null) Queues.of(iterated).purged(me, iterated, queue, site);
+                if (queue != null) Queues.of(of).purged(me, of, queue, site);
                 return;
-            case LOOK: Queues.of(receiver).looked(me, receiver, isTrue, queue, site); return;
-            case COUNT: Queues.of(receiver).counted(me, receiver, queue, site); return;
+            case LOOK: Queues.of(of).looked(me, of, isTrue, queue, site); return;
+            case COUNT: Queues.of(of).counted(me, of, queue, site); return;
             case KEY_WITHIN:
-                if (!wasWithin) Maps.write(me, Kind.KEY_READ, receiver, argument, site);
+                if (!wasWithin) Maps.write(me, Kind.KEY_READ, of, argument, site);
                 return;
-            case KEY_READ: case WHOLE_READ: Maps.write(me, kind, receiver, argument, site); return;
+            case KEY_READ: Maps.write(me, kind, of, argument, site); return;
+            case WHOLE_READ:
+                Views.gave(of, result);
+                Maps.write(me, kind, of, argument, site);
+                return;
             default:
         }
     }
@@ -222,26 +231,30 @@ public final class Call {
     private boolean isLast() { return kind == Kind.RECEIVE_LAST || kind == Kind.PEEK_LAST || kind == Kind.PULL_LAST; }
 
     private void failedQueue(Throwable thrown) {
-        Queues of = Queues.of(iterated == null ? receiver : iterated);
+        Queues queues = Queues.of(of);
         boolean isNone = thrown instanceof NoSuchElementException;
         switch (kind) {
-            case SEND: case SEND_FIRST: case HAND: case HAND_OVER: of.wasPut(argument, false, queue); return;
-            case SEND_MANY: of.wasPut(null, false, queue); return;
+            case SEND: case SEND_FIRST: case HAND: case HAND_OVER: queues.wasPut(argument, false, queue); return;
+            case SEND_MANY: queues.wasPut(null, false, queue); return;
             case RECEIVE: case RECEIVE_LAST:
-                if (isNone) of.took(me, receiver, null, isLast(), queue, site);
-                else of.ended();
+                if (isNone) queues.took(me, of, null, isLast(), queue, site);
+                else queues.ended();
                 return;
             case PEEK: case PEEK_LAST:
-                if (isNone) of.peeked(me, receiver, null, isLast(), queue, site);
+                if (isNone) queues.peeked(me, of, null, isLast(), queue, site);
                 return;
             case LOOK: case COUNT: return;
-            default: of.ended();
+            default: queues.ended();
         }
     }
 
     // ---- lines
 
     private void write(byte[] operation) { Events.write(me, operation, receiver, site); }
+
+    private boolean isArray() {
+        return receiver instanceof AtomicIntegerArray || receiver instanceof AtomicLongArray || receiver instanceof AtomicReferenceArray;
+    }
 
     /** The receiver as a variable; where it stands for others, as an updater or a handle of a field, that of the argument. */
     private Line variable(byte[] operation) {
@@ -252,7 +265,7 @@ public final class Call {
         else if (Handles.isHandle(receiver)) Handles.putElement(line, argument, index);
         else {
             Events.putObject(line, receiver);
-            if (index >= 0 && receiver.getClass().getSimpleName().endsWith("Array")) line.put('[').put(index).put(']');
+            if (index >= 0 && isArray()) line.put('[').put(index).put(']');
         }
         Events.end(line, site);
         return line;

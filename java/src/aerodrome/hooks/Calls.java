@@ -2,7 +2,6 @@ package aerodrome.hooks;
 
 import aerodrome.log.Log;
 import aerodrome.log.LoggedThread;
-import aerodrome.names.Numbered;
 import java.util.concurrent.BlockingQueue;
 import java.util.concurrent.ConcurrentLinkedDeque;
 import java.util.concurrent.ConcurrentLinkedQueue;
@@ -13,29 +12,44 @@ import java.util.concurrent.locks.AbstractQueuedSynchronizer;
 public final class Calls {
     private Calls() { }
 
-    /** Of a class: whether calls of its methods stand for its contents, since no event of its own code does. */
-    private static final ClassValue<Boolean> OPAQUE = new ClassValue<Boolean>() {
+    /** Of a class: whether its equals and hashCode are those of Object, which look at no contents. */
+    private static final ClassValue<Boolean> BY_IDENTITY = new ClassValue<Boolean>() {
         @Override protected Boolean computeValue(Class<?> of) {
-            if (!Numbered.class.isAssignableFrom(of)) return true;
-            for (Class<?> one = of; one != null; one = one.getSuperclass())
-                if (one.getName().startsWith("java.util.")) return !one.getSimpleName().startsWith("Abstract");
-            return false;
+            try {
+                return of.getMethod("equals", Object.class).getDeclaringClass() == Object.class;
+            } catch (ReflectiveOperationException | LinkageError unknown) {
+                return true;
+            }
         }
     };
+    private static boolean isComparedByIdentity(Object receiver) { return BY_IDENTITY.get(receiver.getClass()); }
 
     /** The monitor that the call of a collection takes, so that it is logged by who has it; null where there is none. */
     public static Object monitor(int code, Object receiver) {
-        return Log.on && receiver != null ? Monitors.of(receiver, code) : null;
+        if (!Log.on || receiver == null || Kind.kind(code) == Kind.COLLECTION_COMPARE && isComparedByIdentity(receiver)) return null;
+        return Monitors.of(receiver, code);
+    }
+
+    /**
+     * Returns the code of a call of a method that a class of the program may have: 0 if one has it, because then the events of the
+     * method's code count, such as those of a call of the JDK's method.
+     *
+     * @param method as Methods.isOwn takes it
+     */
+    public static int code(int code, Object receiver, String method) {
+        return Log.on && receiver != null && Methods.isOwn(receiver.getClass(), method) ? 0 : code;
     }
 
     /** Before a call. What it gives goes to `after` or `failed`, and is null where nothing is logged. */
     public static Call before(int code, Object receiver, Object argument, long index, int site) {
         LoggedThread me = receiver == null ? null : LoggedThread.logging();
-        Kind kind = me == null ? Kind.NOTHING : kind(code, receiver, argument);
+        if (me == null) return null;
+        Object of = Kind.kind(code).mayBeOfView() ? Views.origin(receiver) : receiver;
+        Kind kind = kind(code, receiver, of, argument);
         if (kind == Kind.NOTHING || me.initializing > 0 && kind.isAccess()) return null;
         Stir.place();
         Call call = new Call(me, receiver, argument, index, site);
-        call.before(kind);
+        call.before(kind, of);
         return call;
     }
 
@@ -67,16 +81,18 @@ public final class Calls {
         if (call != null) call.failed(thrown);
     }
 
-    /** The kind that fits the receiver. */
-    private static Kind kind(int code, Object receiver, Object argument) {
+    /** Returns the kind that fits the receiver, and the collection or map behind it. */
+    private static Kind kind(int code, Object receiver, Object of, Object argument) {
         Kind kind = Kind.kind(code);
         if (kind.ofState()) return isSynchronizer(receiver) ? kind : Kind.NOTHING;
         if (kind.isOpen()) return receiver.getClass().getClassLoader() == null ? kind.closed() : kind.apart();
         if (argument == null && isUnsafe(receiver)) return Kind.NOTHING;
         if (!kind.isContents()) return kind;
-        if (!OPAQUE.get(receiver.getClass())) return Kind.NOTHING;
-        if (Kind.ofMap(code) != Kind.NOTHING && Maps.hasKeys(receiver)) return Maps.kind(Kind.ofMap(code), receiver);
-        return Kind.ofQueue(code) != Kind.NOTHING && isQueue(receiver) ? Kind.ofQueue(code) : kind;
+        if (!Views.isOpaque(of)) return Kind.NOTHING;
+        if (Kind.ofMap(code) != Kind.NOTHING && Maps.hasKeys(of)) return Maps.kind(Kind.ofMap(code), receiver);
+        if (Kind.ofQueue(code) != Kind.NOTHING && isQueue(of)) return Views.ofQueue(Kind.ofQueue(code), receiver);
+        if (kind == Kind.COLLECTION_COMPARE) return isComparedByIdentity(receiver) ? Kind.NOTHING : Kind.COLLECTION_READ;
+        return kind;
     }
     private static boolean isSynchronizer(Object receiver) {
         return receiver instanceof AbstractQueuedSynchronizer || receiver instanceof AbstractQueuedLongSynchronizer;

@@ -55,7 +55,7 @@ public final class Handles {
         boolean isThere = field instanceof FieldName ? ((FieldName) field).isOf(first) : first != null;
         if (!isThere || !handle.isAccessModeSupported(forms[form].mode)) return null;
         Call call = new Call(me, handle, first, index, site);
-        call.before(isDirect(handle) ? forms[form].kind : forms[form].kind.apart());
+        call.before(isDirect(handle) ? forms[form].kind : forms[form].kind.apart(), handle);
         return call;
     }
 

@@ -64,6 +64,10 @@ public enum Kind {
     PULL(Group.QUEUE), PULL_LAST(Group.QUEUE), PURGE(Group.QUEUE),
 
     COLLECTION_READ(Group.COLLECTION), COLLECTION_WRITE(Group.COLLECTION),
+    /** A read of a key, which is a write if it moves the key: a map in the order of accesses does so. */
+    COLLECTION_GET(Group.COLLECTION),
+    /** A read by equals or hashCode, unless the class has those of Object. */
+    COLLECTION_COMPARE(Group.COLLECTION),
     /** By an iterator. */
     ITERATOR_WRITE(Group.COLLECTION);
 
@@ -105,10 +109,18 @@ public enum Kind {
     private static Kind numbered(int number) { return number == 0 ? NOTHING : ALL[number - 1]; }
 
     public static boolean isExchange(int code) { return kind(code) == EXCHANGE; }
+    public static boolean isStamped(int code) { return kind(code) == STAMPED; }
+    /** Returns whether the JDK's methods of this kind are final. */
+    public static boolean isOfVariable(int code) { return kind(code).group == Group.VARIABLE; }
+    /** Returns whether a call has no events if a class of the program has the method. Locks count how often they are held instead. */
+    public static boolean isOfMethod(int code) {
+        Kind kind = kind(code);
+        return !(kind.ofState() || kind == WAIT || kind == LOCK || kind == TRY_LOCK || kind == UNLOCK);
+    }
     public static boolean isOfCollection(int code) { return kind(code).isCollection(); }
     static Kind kind(int code) { return numbered(code & 255); }
-    static Kind ofQueue(int code) { return numbered(code >>> 8 & 255); }
-    static Kind ofMap(int code) { return numbered(code >>> 16); }
+    static Kind ofQueue(int code) { return kind(code).group == Group.QUEUE ? kind(code) : numbered(code >>> 8 & 255); }
+    static Kind ofMap(int code) { return kind(code).ofKeys() ? kind(code) : numbered(code >>> 16); }
     /** Whether what stands for the call is given the call, too: so Within is. */
     public static boolean isWithin(int code) {
         for (Kind one : new Kind[] {kind(code), ofMap(code)}) if (one == KEY_IF_ABSENT || one == KEY_WITHIN) return true;
@@ -117,9 +129,26 @@ public enum Kind {
 
     /** Whether it is an access, which isn't logged within an initializer of a class. */
     boolean isAccess() { return group != Group.NONE && group != Group.ORDER; }
-    public boolean isCollection() { return this == COLLECTION_READ || this == COLLECTION_WRITE; }
+    public boolean isCollection() { return group == Group.COLLECTION && this != ITERATOR_WRITE; }
+    /** Returns whether the call is one of the collection or map behind the receiver. */
+    boolean mayBeOfView() { return isContents() && this != ITERATOR_WRITE; }
     /** Whether the options may leave it out. */
     public boolean isContents() { return group.isContents(); }
+
+    /** Returns the kind of the same call at the other end of a queue. */
+    Kind turned() {
+        switch (this) {
+            case SEND: return SEND_FIRST;
+            case SEND_FIRST: return SEND;
+            case RECEIVE: return RECEIVE_LAST;
+            case RECEIVE_LAST: return RECEIVE;
+            case PEEK: return PEEK_LAST;
+            case PEEK_LAST: return PEEK;
+            case PULL: return PULL_LAST;
+            case PULL_LAST: return PULL;
+            default: return this;
+        }
+    }
 
     boolean isOpen() { return group == Group.OPEN; }
     /** How a call is logged that isn't made under the lock. */

@@ -6,6 +6,7 @@ import aerodrome.names.Text;
 import java.lang.invoke.MethodHandles;
 import java.lang.invoke.VarHandle;
 import java.lang.reflect.Field;
+import java.util.concurrent.locks.AbstractQueuedLongSynchronizer;
 import java.util.concurrent.locks.AbstractQueuedSynchronizer.ConditionObject;
 import java.util.concurrent.locks.Lock;
 import java.util.concurrent.locks.ReentrantLock;
@@ -15,7 +16,7 @@ import java.util.concurrent.locks.ReentrantReadWriteLock.WriteLock;
 /** The locks of java.util.concurrent. A lock, its views and its conditions share a synchronizer, which is the lock by the log. */
 public final class Locks {
     private static final byte[] READ_WRITE = Text.bytes("rw.");
-    private static VarHandle ofLock, ofReader, ofWriter, ofCondition, ofReadView, ofWriteView;
+    private static VarHandle ofLock, ofReader, ofWriter, ofCondition, ofLongCondition, ofReadView, ofWriteView;
     private static Class<?> readView, writeView;
 
     private Locks() { }
@@ -26,6 +27,7 @@ public final class Locks {
         ofReader = handle(ReadLock.class, "sync");
         ofWriter = handle(WriteLock.class, "sync");
         ofCondition = handle(ConditionObject.class, "this$0");
+        ofLongCondition = handle(AbstractQueuedLongSynchronizer.ConditionObject.class, "this$0");
         readView = Class.forName("java.util.concurrent.locks.StampedLock$ReadLockView");
         writeView = Class.forName("java.util.concurrent.locks.StampedLock$WriteLockView");
         ofReadView = handle(readView, "this$0");
@@ -64,16 +66,21 @@ public final class Locks {
 
     /** A condition's lock while it is waited on. Gives how often the lock was held. */
     static int giveBack(LoggedThread me, Object condition, int site) {
-        if (!(condition instanceof ConditionObject)) return 0;
-        Object of = ofCondition.get(condition);
+        Object of = synchronizer(condition);
+        if (of == null) return 0;
         if (isReadWrite(of)) Events.write(me, Events.WRITE, READ_WRITE, of, site);
         return Events.release(me, of, Integer.MAX_VALUE, site);
     }
     static void takeBack(LoggedThread me, Object condition, int times, int site) {
-        if (!(condition instanceof ConditionObject)) return;
-        Object of = ofCondition.get(condition);
+        Object of = synchronizer(condition);
+        if (of == null) return;
         if (isReadWrite(of)) Events.write(me, Events.WRITE, READ_WRITE, of, site);
         Events.acquire(me, of, times, site);
+    }
+    /** Returns the synchronizer of a condition of the JDK, or null. That of a read-write lock counts in longs in later JDKs. */
+    private static Object synchronizer(Object condition) {
+        if (condition instanceof ConditionObject) return ofCondition.get(condition);
+        return condition instanceof AbstractQueuedLongSynchronizer.ConditionObject ? ofLongCondition.get(condition) : null;
     }
     private static boolean isReadWrite(Object synchronizer) {
         return synchronizer.getClass().getName().startsWith("java.util.concurrent.locks.ReentrantReadWriteLock");

@@ -23,23 +23,19 @@ final class Maps {
 
     private Maps() { }
 
-    /** Whether there is a variable for each key. */
-    static boolean hasKeys(Object receiver) {
-        Object map = Views.origin(receiver);
-        return map instanceof ConcurrentMap || map instanceof ConcurrentSkipListSet;
-    }
-    /** What a call of this kind is by a view of a map's values or entries: it may come upon any key. */
+    /** Returns whether the map or set, which is no view, has a variable for each key. */
+    static boolean hasKeys(Object map) { return map instanceof ConcurrentMap || map instanceof ConcurrentSkipListSet; }
+    /** Returns the kind of a call by a view, which may be one of a map's values or entries: then the call may come upon any key. */
     static Kind kind(Kind ofKey, Object receiver) {
         if (ofKey == Kind.WHOLE_READ || ofKey == Kind.WHOLE_WRITE || Views.isOfKeys(receiver)) return ofKey;
         return ofKey == Kind.KEY_READ ? Kind.WHOLE_READ : Kind.WHOLE_WRITE;
     }
-    static boolean hasKey(Object receiver, Object key) {
-        return receiver instanceof Map ? ((Map<?, ?>) receiver).get(key) != null : ((Collection<?>) receiver).contains(key);
+    static boolean hasKey(Object map, Object key) {
+        return map instanceof Map ? ((Map<?, ?>) map).get(key) != null : ((Collection<?>) map).contains(key);
     }
 
-    /** Its lines stand in the log without one of another thread between. */
-    static void write(LoggedThread me, Kind kind, Object receiver, Object key, int site) {
-        Object map = Views.origin(receiver);
+    /** Writes the lines of a call, without one of another thread between. */
+    static void write(LoggedThread me, Kind kind, Object map, Object key, int site) {
         boolean isOfKey = kind == Kind.KEY_READ || kind == Kind.KEY_WRITE;
         Keys telling = isOfKey ? Keys.of(key) : Keys.NOT;
         long number = isOfKey ? number(me, telling, key) : -1, of = Numbers.of(map);

@@ -46,11 +46,16 @@ public final class Threads {
     }
 
     /**
-     * The program has ended, and its own hooks for that too. The blocks of the thread that has called System.exit end with it. (A thread
+     * Ends the blocks of the thread that ends the program, before it starts the program's own hooks for that and waits for them. (A thread
      * of the system's that has no number gets none.)
      */
-    public static void finish() {
+    public static void leaves() {
         if (Numbers.tied(Thread.currentThread()) != null) Blocks.leave(0, Site.NOWHERE);
+    }
+
+    /** Writes the log out: the program has ended, and its own hooks for that too. One that halts has left no block yet. */
+    public static void finish() {
+        leaves();
         Log.finish();
     }
 }

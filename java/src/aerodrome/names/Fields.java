@@ -3,14 +3,16 @@ package aerodrome.names;
 import aerodrome.Options;
 import java.lang.ref.WeakReference;
 import java.lang.reflect.Modifier;
+import java.util.ArrayList;
 import java.util.List;
 import java.util.Map;
+import java.util.Set;
 import java.util.concurrent.ConcurrentHashMap;
 import java.util.concurrent.CopyOnWriteArrayList;
 
 /**
- * The fields of the instrumented classes. An access may name a class that inherits the field: its name is by the declaring one.
- * Several loaders may have classes of one name, so a class is known by its name and its loader.
+ * The fields of the instrumented classes, and the methods of those that extend others. An access may name a class that inherits the
+ * field: its name is by the declaring one. Several loaders may have classes of one name, so a class is known by its name and its loader.
  */
 public final class Fields {
     private static final int MOST = 220;
@@ -21,6 +23,8 @@ public final class Fields {
         final String[] interfaces;
         /** By name, how it was declared: the flags of its class file. */
         final Map<String, Integer> fields = new ConcurrentHashMap<>();
+        /** The names and descriptors of its methods. */
+        final Set<String> methods = ConcurrentHashMap.newKeySet();
 
         Known(ClassLoader loader, String above, String[] interfaces) {
             this.loader = new WeakReference<>(loader);
@@ -41,6 +45,13 @@ public final class Fields {
     }
     public static void noteField(ClassLoader loader, String of, String field, int access) {
         known(loader, of).fields.put(field, access);
+    }
+
+    public static void noteMethod(ClassLoader loader, String of, String method) { known(loader, of).methods.add(method); }
+    /** Returns whether the class itself has the method, which was noted. */
+    public static boolean hasMethod(Class<?> of, String method) {
+        Known known = known(of.getClassLoader(), of.getName().replace('.', '/'));
+        return known != null && known.methods.contains(method);
     }
 
     /** Whether no class is instrumented. */
@@ -108,11 +119,14 @@ public final class Fields {
         return null;
     }
 
-    /** The class of the JDK, or another that isn't instrumented, that such a class extends; null where that isn't known. */
-    public static String base(ClassLoader by, String of) {
-        String name = of;
-        for (Known known; (known = seen(by, name)) != null; ) name = known.above;
-        return name == null || name.equals(of) ? null : name;
+    /** Returns the class that such a class extends, and then its interfaces; an empty list if the class isn't known. */
+    public static List<String> above(ClassLoader by, String of) {
+        Known known = seen(by, of);
+        if (known == null || known.above == null) return List.of();
+        List<String> above = new ArrayList<>();
+        above.add(known.above);
+        above.addAll(List.of(known.interfaces));
+        return above;
     }
 
     /** What the field of an object is called before the object's number: `Bank.balance`. */

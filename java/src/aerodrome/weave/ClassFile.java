@@ -5,6 +5,8 @@ import static org.objectweb.asm.Opcodes.V11;
 
 import java.io.IOException;
 import java.io.InputStream;
+import java.util.ArrayList;
+import java.util.List;
 import org.objectweb.asm.ClassReader;
 import org.objectweb.asm.ClassVisitor;
 
@@ -34,13 +36,21 @@ public final class ClassFile {
 
     static int version(byte[] bytes) { return (bytes[VERSION + 2] & 255) << 8 | bytes[VERSION + 3] & 255; }
 
-    /** The class that another one extends, which isn't loaded, by the file that the loader has for it; null where that isn't known. */
-    static String above(ClassLoader loader, String name) {
+    /**
+     * Returns the class that another one extends, which isn't loaded, and then its interfaces, by the file that the loader has for it;
+     * an empty list if there is no such file.
+     */
+    static List<String> above(ClassLoader loader, String name) {
         String file = name + ".class";
         try (InputStream bytes = loader == null ? ClassLoader.getSystemResourceAsStream(file) : loader.getResourceAsStream(file)) {
-            return bytes == null ? null : reader(bytes.readAllBytes()).getSuperName();
+            if (bytes == null) return List.of();
+            ClassReader of = reader(bytes.readAllBytes());
+            List<String> above = new ArrayList<>();
+            above.add(of.getSuperName());
+            above.addAll(List.of(of.getInterfaces()));
+            return above;
         } catch (IOException | RuntimeException unreadable) {
-            return null;
+            return List.of();
         }
     }
 

@@ -2,6 +2,7 @@ package aerodrome.weave;
 
 import static org.objectweb.asm.Opcodes.*;
 
+import aerodrome.Options;
 import aerodrome.hooks.Kind;
 import java.util.ArrayList;
 import java.util.List;
@@ -37,7 +38,7 @@ final class StubWriter {
 
     /** Methods of collections that don't take the monitor of those that have one. */
     private static final Set<String> WITHOUT_MONITOR = Set.of("iterator", "descendingIterator", "listIterator", "stream",
-            "parallelStream", "spliterator", "elements", "keys", "keySet", "entrySet", "values");
+            "parallelStream", "spliterator", "elements", "keys", "keySet", "entrySet", "values", "reversed");
 
     private final MethodVisitor code;
     private final Stub stub;
@@ -159,7 +160,7 @@ final class StubWriter {
     }
 
     private void before() {
-        code.visitLdcInsn(stub.form >= 0 ? stub.form : stub.code);
+        code();
         if (!stub.call.isStatic()) code.visitVarInsn(ALOAD, 0);
         else code.visitMethodInsn(INVOKESTATIC, "java/lang/Thread", "currentThread", "()Ljava/lang/Thread;", false);
         boolean hasObject = arguments.length > 0 && arguments[0].getSort() >= Type.ARRAY;
@@ -172,6 +173,16 @@ final class StubWriter {
         code.visitMethodInsn(INVOKESTATIC, stub.form >= 0 ? HANDLES : CALLS, "before", "(I" + given + "I)L" + CALL + ";", false);
         code.visitVarInsn(ASTORE, call);
     }
+    /** Pushes the form, or the code, which depends on the receiver if a class of the program may have the method. */
+    private void code() {
+        code.visitLdcInsn(stub.form >= 0 ? stub.form : stub.code);
+        boolean isOfProgram = Options.covers(stub.call.owner);
+        boolean isOfJdk = stub.call.isStatic() || !isOfProgram && (stub.call.isSpecial() || Kind.isOfVariable(stub.code));
+        if (stub.form >= 0 || isOfJdk || !Kind.isOfMethod(stub.code)) return;
+        code.visitVarInsn(ALOAD, 0);
+        code.visitLdcInsn((stub.call.isSpecial() ? stub.call.owner + "." : "") + stub.call.name + stub.call.descriptor);
+        code.visitMethodInsn(INVOKESTATIC, CALLS, "code", "(I" + OBJECT + "Ljava/lang/String;)I", false);
+    }
     /** The first argument if it is an int, or a stamp, the second if it is a long behind an object, else -1. */
     private void index(boolean hasObject) {
         if (arguments.length > 0 && arguments[0] == Type.INT_TYPE) {
@@ -182,10 +193,7 @@ final class StubWriter {
             code.visitVarInsn(LLOAD, stub.firstArgument() + 1);
         else code.visitLdcInsn(-1L);
     }
-    private boolean isStamp() {
-        boolean isLong = arguments.length > 0 && arguments[0] == Type.LONG_TYPE;
-        return isLong && stub.call.owner.equals("java/util/concurrent/locks/StampedLock");
-    }
+    private boolean isStamp() { return arguments.length > 0 && arguments[0] == Type.LONG_TYPE && Kind.isStamped(stub.code); }
     private void handleIndex() {
         if (arguments.length > 1 && arguments[0].getSize() == 1 && arguments[1] == Type.INT_TYPE) code.visitVarInsn(ILOAD, 2);
         else code.visitInsn(ICONST_M1);

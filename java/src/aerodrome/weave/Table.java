@@ -1,12 +1,12 @@
 package aerodrome.weave;
 
+import static org.objectweb.asm.Opcodes.INVOKEINTERFACE;
 import static org.objectweb.asm.Opcodes.INVOKESPECIAL;
 import static org.objectweb.asm.Opcodes.INVOKESTATIC;
 import static org.objectweb.asm.Opcodes.INVOKEVIRTUAL;
 
 import aerodrome.Options;
 import aerodrome.hooks.Kind;
-import aerodrome.names.Fields;
 import java.io.BufferedReader;
 import java.io.IOException;
 import java.io.InputStream;
@@ -15,13 +15,17 @@ import java.nio.charset.StandardCharsets;
 import java.util.ArrayList;
 import java.util.Arrays;
 import java.util.HashMap;
+import java.util.HashSet;
 import java.util.List;
 import java.util.Locale;
 import java.util.Map;
+import java.util.Set;
 
 /** What becomes what, as the file `table` has it. */
 public final class Table {
     private static final String ANY = "*";
+    /** The package of the classes that a program may extend. */
+    private static final String EXTENDED = "java/util/";
     /** The only class whose static methods are logged. */
     private static final String STATIC_OWNER = "java/util/concurrent/locks/LockSupport";
 
@@ -53,12 +57,23 @@ public final class Table {
 
     /** By the name of a class, as a/b/C. */
     private final Map<String, List<Row>> rows;
+    /** The names of the methods that a class of the program may have from one of the JDK's, and what such names begin with. */
+    private final Set<String> names = new HashSet<>(), beginnings = new HashSet<>();
     /** The methods of the JDK that call a hook. */
     final List<JdkHook> hooks;
 
     private Table(Map<String, List<Row>> rows, List<JdkHook> hooks) {
         this.rows = rows;
         this.hooks = hooks;
+        rows.forEach((owner, all) -> all.forEach(row -> noteNames(owner, row)));
+    }
+
+    private void noteNames(String owner, Row row) {
+        if (owner.startsWith(EXTENDED)) for (String one : row.methods) noteName(one);
+    }
+    private void noteName(String method) {
+        if (method.endsWith("*")) beginnings.add(method.substring(0, method.length() - 1));
+        else names.add(method.indexOf('(') < 0 ? method : method.substring(0, method.indexOf('(')));
     }
 
     public static Table read() throws IOException {
@@ -110,15 +125,31 @@ public final class Table {
         if (opcode == INVOKESTATIC && !owner.equals(STATIC_OWNER)) return 0;
         Row row = opcode == INVOKESPECIAL ? null : row(owner, name, descriptor);
         if (row == null && (opcode == INVOKEVIRTUAL || opcode == INVOKESPECIAL)) row = inherited(by, opcode, owner, name, descriptor);
+        if (row == null && opcode == INVOKEINTERFACE) row = ofInterfaces(by, owner, name, descriptor);
         return row == null || row.kind.isContents() && !Options.collections ? 0 : row.code;
     }
 
     /** The row of a method that the class may have from one of the JDK: the method's name says so, or what the class extends. */
     private Row inherited(ClassLoader by, int opcode, String owner, String name, String descriptor) {
         Row row = row(ANY, name, descriptor);
-        if (row != null) return row;
-        String base = Options.covers(owner) ? Fields.base(by, owner) : opcode == INVOKESPECIAL ? owner : null;
-        row = base == null ? null : row(base, name, descriptor);
-        return row != null && row.kind.isCollection() ? row : null;
+        if (row != null || !mayBeNamed(name)) return row;
+        String base = Options.covers(owner) ? Bases.base(by, owner) : opcode == INVOKESPECIAL ? owner : null;
+        // A class between the two that isn't instrumented has no rows.
+        while (base != null && !base.startsWith("java/")) base = Bases.base(by, base);
+        return base == null ? null : row(base, name, descriptor);
+    }
+    /** Returns the row of a method that an interface of the program has from one of the JDK, or null. */
+    private Row ofInterfaces(ClassLoader by, String owner, String name, String descriptor) {
+        if (!Options.covers(owner) || !mayBeNamed(name)) return null;
+        for (String one : Bases.interfaces(by, owner)) {
+            Row row = row(one, name, descriptor);
+            if (row != null) return row;
+        }
+        return null;
+    }
+    /** Returns whether some row has methods of this name, so that the files of classes are read for no others. */
+    private boolean mayBeNamed(String name) {
+        for (String one : beginnings) if (name.startsWith(one)) return true;
+        return names.contains(name);
     }
 }

@@ -36,6 +36,8 @@ final class WovenClass extends ClassVisitor {
     private String source;
     /** Whether it gets the number, and whether a class above it, which isn't instrumented, may clone its objects with it. */
     private boolean isNumbered, mayBeCloned;
+    /** Whether its methods may override others. */
+    private boolean isDerived;
 
     /**
      * @param light the methods whose accesses are left out
@@ -60,6 +62,7 @@ final class WovenClass extends ClassVisitor {
         Fields.note(loader(), name, above, all);
         isNumbered = (access & (ACC_INTERFACE | ACC_MODULE)) == 0 && above != null && !Options.covers(above);
         mayBeCloned = isNumbered && !above.equals("java/lang/Object");
+        isDerived = above != null && !above.equals("java/lang/Object");
         if (isNumbered) {
             all = Arrays.copyOf(all, all.length + 1);
             all[all.length - 1] = NUMBERED;
@@ -82,6 +85,7 @@ final class WovenClass extends ClassVisitor {
     @Override
     public MethodVisitor visitMethod(int access, String method, String descriptor, String signature, String[] thrown) {
         MethodVisitor to = super.visitMethod(access, method, descriptor, signature, thrown);
+        if (isDerived && (access & (ACC_ABSTRACT | ACC_STATIC)) == 0) Fields.noteMethod(loader(), name, method + descriptor);
         if (to == null || (access & (ACC_ABSTRACT | ACC_NATIVE)) != 0 || Coverage.isOwn(method)) return to;
         MethodVisitor woven = new WovenMethod(to, access, method, descriptor, this);
         return version < FRAMES ? new JSRInlinerAdapter(woven, access, method, descriptor, signature, thrown) : woven;
@@ -134,9 +138,8 @@ final class WovenClass extends ClassVisitor {
     /** Whether a fork-join pool runs the method, as other pools run `run` and `call`. */
     boolean isForked(String method, String descriptor) {
         if (!method.equals("compute") || !descriptor.startsWith("()")) return false;
-        String above = Fields.base(loader(), name);
-        while (above != null && !above.startsWith("java/")) above = ClassFile.above(loader(), above);
-        return above != null && FORKED.contains(above);
+        String base = Bases.base(loader(), name);
+        return base != null && FORKED.contains(base);
     }
     int firstLine(String method, String descriptor) { return outline.lines.getOrDefault(method + descriptor, 0); }
 
