@@ -41,7 +41,11 @@ same_tracked terms qs rs tale tracks chunks checks tracked s t at = go t (tracke
     go : (t : Track) → IsTracked terms qs s (tale s) t → IsTracked terms rs s (tale s) t
     go (Arriving known) is = (settled known is.0, sym (checks s) ∙ is.1, is.2)
     go (Arrived n ending k known) is = (settled known is.0, sym (checks s) ∙ is.1, is.2)
-    go (Checking n ending) is = (subst (λ cs. All (λ a. a ≡ record { parts = map reading_of (tale s).chunks; terms = to_the_end terms }) cs) (checks s) is.0, is.1)
+    go (Checking n ending begun) is = (
+      subst (λ cs. All (λ a. a ≡ record { parts = map reading_of (tale s).chunks; terms = to_the_end terms }) cs) (checks s) is.0,
+      is.1,
+      is.2,
+    )
     go (Found g) is = is
 
 -- the first question on a chunk, in front of all

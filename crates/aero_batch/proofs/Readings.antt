@@ -18,7 +18,7 @@ use Rattle.aero_intake.specs.declared.track.Track.TheVariants.{Arriving, Arrived
 use Rattle.aero_telling.specs.Founds.{Sighted}
 use Rattle.aero_batch.specs.Holding.{Holds, HasEnded, HasComeFrom, nothing_known}
 use Rattle.aero_batch.specs.Inquiries.{Inquired, AreApart, all_open}
-use Rattle.aero_intake.specs.Held.{Known, IsDecisive}
+use Rattle.aero_intake.specs.Held.{Known, IsFinal}
 use Rattle.aero_intake.specs.Intake.{Taking, IsTaken, HaveCome, HasCome, with_passing, fed_all}
 use Rattle.aero_intake.specs.Source.{Closes, Sight, WasRead}
 use Rattle.aero_batch.specs.Steps.{TakesPiece, NotesEnding, CutsHeld, PassesOver, PassesOn, StopsReading, IsReadFrom, DecidesThere, HasDecided, HasEnough, IsWanted}
@@ -56,14 +56,14 @@ ended_stays terms old now after place s story others other has = record {
 
 -- What is settled of the source that is being read decides, and so do all its chunks that were asked about.
 story_decides : (terms : Terms) (p : Underway) (tale : ℕ → Story) → AreTracked terms (all_open p.inquiry) tale p.tracks.items → HasDecided p →
-    IsDecisive terms (map reading_of (tale p.read).chunks)
+    IsFinal terms (map reading_of (tale p.read).chunks)
 story_decides terms p tale tracked is = go (slice_get p.tracks.items p.read) refl is
   where
-    go : (o : Option Track) → slice_get p.tracks.items p.read ≡ o → DecidesThere o → IsDecisive terms (map reading_of (tale p.read).chunks)
+    go : (o : Option Track) → slice_get p.tracks.items p.read ≡ o → DecidesThere o → IsFinal terms (map reading_of (tale p.read).chunks)
     go None at is = absurd is
     go (Some (Arriving known)) at is = settled_decide terms (all_open p.inquiry) p.read (tale p.read) known (tracked p.read (Arriving known) at).0 is
     go (Some (Arrived bytes ending chunks known)) at is = absurd is
-    go (Some (Checking bytes ending)) at is = absurd is
+    go (Some (Checking bytes ending begun)) at is = absurd is
     go (Some (Found g)) at is = absurd is
 
 -- where no further chunk counts, those that were asked about decide
@@ -281,9 +281,9 @@ ended_track_fits terms qs s count chunks Whole i pieces cut all known taken is_c
   },
 )
 ended_track_fits terms qs s count chunks Broken i pieces cut all known taken is_count enough stopped is_chunks is =
-    (refl, is_count, merely (ap findings.Broken is_count))
+    (refl, is_count, merely (ap findings.Broken is_count), inr (inl refl))
 ended_track_fits terms qs s count chunks TooLarge i pieces cut all known taken is_count enough stopped is_chunks is =
-    (refl, is_count, merely refl)
+    (refl, is_count, merely refl, inr (inl refl))
 ended_track_fits terms qs s count chunks Stopped i pieces cut all known taken is_count enough stopped is_chunks is = (
   record { on = is.0.on; all = is.0.all },
   is.1,

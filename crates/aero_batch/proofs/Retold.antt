@@ -145,19 +145,19 @@ check_asked : (terms : Terms) (i : Inquired) (tale : ℕ → Story) (tracks : Li
     slice_get tracks place ≡ Some before → IsReady before → GivesParts before after parts → AreTracked terms (all_open i) tale tracks →
     AreTracked terms (checked_on terms i place parts) tale (changed place (λ t. after) tracks)
 check_asked terms i tale tracks place (Arriving known) after parts was ready gives tracked = absurd ready
-check_asked terms i tale tracks place (Checking bytes ending) after parts was ready gives tracked = absurd ready
-check_asked terms i tale tracks place (Arrived bytes ending chunks known) after parts was ready (inl gives) tracked =
+check_asked terms i tale tracks place (Checking bytes ending begun) after parts was ready gives tracked = absurd ready
+check_asked terms i tale tracks place (Arrived bytes ending chunks known) after parts was ready (begun, said, inl gives) tracked =
     let question = Check place known.parts terms.rules.limits terms.rules.labels terms.rules.end terms.order terms.explain in
     subst (λ o. AreTracked terms (checked_on terms i place o) tale (changed place (λ t. after) tracks)) (sym gives.0)
     (known_after terms (all_open i) (all_open i ++ question ∷ []) tale tracks place (Arrived bytes ending chunks known) after was
     (subst (λ x. IsTracked terms (all_open i ++ question ∷ []) place (tale place) x) (sym gives.1)
-    (asked_check terms (all_open i) place bytes ending chunks (tale place) known ready (tracked place (Arrived bytes ending chunks known) was)))
+    (asked_check terms (all_open i) place bytes ending chunks (tale place) known begun ready said (tracked place (Arrived bytes ending chunks known) was)))
     (λ s t other. asked_other terms (all_open i) question s (tale s) t other) tracked)
-check_asked terms i tale tracks place (Arrived bytes ending chunks known) after parts was ready (inr gives) tracked =
+check_asked terms i tale tracks place (Arrived bytes ending chunks known) after parts was ready (begun, said, inr gives) tracked =
     subst (λ o. AreTracked terms (checked_on terms i place o) tale (changed place (λ t. after) tracks)) (sym gives.0)
     (known_after terms (all_open i) (all_open i) tale tracks place (Arrived bytes ending chunks known) after was
     (subst (λ x. IsTracked terms (all_open i) place (tale place) x) (sym gives.3)
-    (found_here terms (all_open i) place bytes ending chunks (tale place) known gives.1 ready gives.2 (tracked place (Arrived bytes ending chunks known) was)))
+    (found_here terms (all_open i) place bytes ending chunks (tale place) known gives.1 begun ready said gives.2 (tracked place (Arrived bytes ending chunks known) was)))
     (λ s t other is. is) tracked)
 check_asked terms i tale tracks place (Found g) after parts was ready gives tracked =
     subst (λ o. AreTracked terms (checked_on terms i place o) tale (changed place (λ t. after) tracks)) (sym gives.0)
@@ -191,7 +191,7 @@ still_arriving terms qs s story (Arrived bytes ending chunks known) none is = ab
   where
     clash : {A : Type 0} {o : Option A} {x : A} → o ≡ None → o ≡ Some x → ⊥
     clash p q = cc (p, q)
-still_arriving terms qs s story (Checking bytes ending) none is = absurd (clash none is.1.ended)
+still_arriving terms qs s story (Checking bytes ending begun) none is = absurd (clash none is.1.ended)
   where
     clash : {A : Type 0} {o : Option A} {x : A} → o ≡ None → o ≡ Some x → ⊥
     clash p q = cc (p, q)

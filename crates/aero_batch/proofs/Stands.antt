@@ -7,7 +7,7 @@ use Rattle.std.proofs.KnownBytes.{Appends-nil}
 use Rattle.std.proofs.lemmas.List.{append-nil, length-map, map-append, length_push, length-replicate}
 use Rattle.std.proofs.lemmas.Option.{slice_get_within}
 use Rattle.aero_model.specs.declared.verdict.Ending.TheVariants.{Stopped}
-use Rattle.aero_intake.specs.declared.found.Found as intake
+use Rattle.aero_intake.specs.declared.found.Found as model
 use Rattle.aero_model.specs.CallCounts.{Seen}
 use Rattle.aero_model.specs.Verdicts.{counted, total}
 use Rattle.aero_report.specs.declared.form.Form.{Form}
@@ -20,7 +20,8 @@ use Rattle.aero_intake.specs.declared.track.Track.{Track}
 use Rattle.aero_intake.specs.declared.track.Track.TheVariants as tracks
 use Rattle.aero_telling.specs.Notables.{notable_of}
 use Rattle.aero_telling.specs.Founds.{Sighted, whose, Found, IsFoundAt, AreOfTheFirst, ending_of, notable, lines_of_all, Took}
-use Rattle.aero_telling.specs.Founds.{IsWritten, WasTold, no_text}
+use Rattle.aero_telling.specs.Founds.{IsWritten, no_text}
+use Rattle.aero_telling.specs.Labels.{HasTold}
 use Rattle.aero_batch.specs.Holding.{Holds, HasComeFrom, Counted, AreTold, Tells, Stands, HasNumbers, IsBegun, nothing_known}
 use Rattle.aero_batch.specs.Inquiries.{Inquired, AreApart, all_open, open_count}
 use Rattle.aero_intake.specs.Held.{nothing_read}
@@ -35,14 +36,14 @@ use Rattle.aero_batch.proofs.Readings.{not_none, taking_holds, noting_holds, sto
 use Rattle.aero_intake.proofs.Taken.{nothing_is_taken, nothing_has_come}
 use Rattle.aero_batch.proofs.Retold.{settling_holds, checking_holds}
 use Rattle.aero_batch.proofs.Sums.{settling_counted, checking_counted, taking_counted, noting_counted, cutting_counted, passing_counted, stopping_counted, ending_counted}
-use Rattle.aero_telling.proofs.Tellings.{the_some, get_push, slice_get_some, lines_more, counts_more, took_more, took_nothing, cut_off}
+use Rattle.aero_telling.proofs.Tellings.{begun_more, flags_more, none_begun, the_some, get_push, slice_get_some, lines_more, counts_more, took_more, took_nothing, cut_off}
 use Rattle.aero_model.specs.Terms.{Terms}
 
 not_both : (b : Bool) → b ≡ true → b ≡ false → ⊥
 not_both b is_true is_false = cc (is_true, is_false)
 
 -- the tracks that may be told are those of sources that have ended
-found_tells : (terms : Terms) (old now : List Sighted) (p : Underway) (tale : ℕ → Story) (place : ℕ) (g : intake.Found) →
+found_tells : (terms : Terms) (old now : List Sighted) (p : Underway) (tale : ℕ → Story) (place : ℕ) (g : model.Found) →
     Holds terms old now p tale → place < p.read →
     slice_get p.tracks.items place ≡ Some (tracks.Found g) → (name : List ℕ) →
     ((b : Sighted) → slice_get old place ≡ Some b → b.name ≡ name) →
@@ -100,7 +101,7 @@ name_then (c ∷ old) (x ∷ now) (suc s) b names was named =
     name_then old now s b rest was named
 
 -- one more source is told
-pub told_stands : (terms : Terms) (form : Form) (old now : List Sighted) (before mid after : Seen) (p : Underway) (a b : Told) (g : intake.Found)
+pub told_stands : (terms : Terms) (form : Form) (old now : List Sighted) (before mid after : Seen) (p : Underway) (a b : Told) (g : model.Found)
     (name : List ℕ) →
     vec_len a.endings < p.checked → slice_get p.tracks.items (vec_len a.endings) ≡ Some (tracks.Found g) →
     ((x : Sighted) → slice_get now (vec_len a.endings) ≡ Some x → x.name ≡ name) →
@@ -129,6 +130,8 @@ told_stands terms form old now before mid after p a b g name below at named took
             (took_more before mid after (lines_of_all form st.founds) (source_line_in form name g.finding) t.took took);
         endings = more.endings ∙ (ap₂ (λ es n. es ++ (n, g.ending) ∷ []) t.endings is.1 ∙ sym (map-append ending_of st.founds (f ∷ [])));
         counts = more.counts ∙ (ap (λ c. counted c g.finding) t.counts ∙ sym (counts_more st.founds f));
+        begun = begun_more terms st.founds f a.begun g.begun b.begun t.flags t.begun is.3 more.begun;
+        flags = flags_more terms.rules.labels.labels a.begun g.begun b.begun t.flags more.begun;
         total_is = omega (arith, more.counted_one, t.total_is, length_push st.founds f);
         room = more.room ∙ t.room;
         notables = more.notables ∙ (ap (λ fs. fs ++ notable_of g.finding ∷ []) t.notables ∙ sym (map-append notable st.founds (f ∷ [])));
@@ -143,36 +146,42 @@ told_stands terms form old now before mid after p a b g name below at named took
 stopped : (terms : Terms) (form : Form) (old now now' : List Sighted) (before mid after : Seen) (p : Underway) (a : Told)
     (st : Stands terms form old now before mid p a) (cause : Option Cause) →
     ((s : ℕ) → s < p.read → slice_get now' s ≡ slice_get now s) → map whose now' ≡ map whose now →
-    IsWritten terms form no_text old now' st.founds before after cause → WasTold terms form old now' before after a.endings.items a.notables.items a.counts cause
+    IsWritten terms form no_text old now' st.founds before after cause → HasTold terms form old now' before after a cause
 stopped terms form old now now' before mid after p a st cause same names written = record {
-  founds = st.founds;
-  found = λ place f at.
-      let few : length st.founds ≤ p.read = omega (arith, st.are_told.few, st.counted.checked) in
-      let is = found_first terms old now p st.tale st.founds st.holds st.are_told.tells few place f at in
-      let within = slice_get_within st.founds place f at in
-      record { before = is.before; after = is.after; was = is.was; is = same place (omega (arith, within, few)) ∙ is.is; found_of = is.found_of };
-  names = names ∙ st.names;
-  ended = st.are_told.endings;
-  notable = st.are_told.notables;
-  counted = st.are_told.counts;
-  written = written;
+  lines = record {
+    founds = st.founds;
+    found = found;
+    names = names ∙ st.names;
+    ended = st.are_told.endings;
+    notable = st.are_told.notables;
+    counted = st.are_told.counts;
+    written = written;
+  };
+  labels = record { founds = st.founds; found = found; ended = st.are_told.endings; begun_are = st.are_told.begun };
 }
+  where
+    found : AreOfTheFirst terms old now' st.founds
+    found place f at =
+        let few : length st.founds ≤ p.read = omega (arith, st.are_told.few, st.counted.checked) in
+        let is = found_first terms old now p st.tale st.founds st.holds st.are_told.tells few place f at in
+        let within = slice_get_within st.founds place f at in
+        record { before = is.before; after = is.after; was = is.was; is = same place (omega (arith, within, few)) ∙ is.is; found_of = is.found_of }
 
 pub memory_stops : (terms : Terms) (form : Form) (old now now' : List Sighted) (before mid after : Seen) (p : Underway) (a : Told) →
     Stands terms form old now before mid p a →
     ((s : ℕ) → s < p.read → slice_get now' s ≡ slice_get now s) → map whose now' ≡ map whose now → Took mid after [] →
-    WasTold terms form old now' before after a.endings.items a.notables.items a.counts (Some Memory)
+    HasTold terms form old now' before after a (Some Memory)
 memory_stops terms form old now now' before mid after p a st same names took =
     stopped terms form old now now' before mid after p a st (Some Memory) same names
     (took_nothing before mid after (lines_of_all form st.founds) st.are_told.took took)
 
 -- a write of the next source's line failed
-pub line_stops : (terms : Terms) (form : Form) (old now : List Sighted) (before mid after : Seen) (p : Underway) (a : Told) (g : intake.Found)
+pub line_stops : (terms : Terms) (form : Form) (old now : List Sighted) (before mid after : Seen) (p : Underway) (a : Told) (g : model.Found)
     (name : List ℕ) →
     vec_len a.endings < p.checked → slice_get p.tracks.items (vec_len a.endings) ≡ Some (tracks.Found g) →
     ((x : Sighted) → slice_get now (vec_len a.endings) ≡ Some x → x.name ≡ name) → WasCut mid after (source_line_in form name g.finding) →
     Stands terms form old now before mid p a →
-    WasTold terms form old now before after a.endings.items a.notables.items a.counts (Some Write)
+    HasTold terms form old now before after a (Some Write)
 line_stops terms form old now before mid after p a g name below at named cut st =
     let t = st.are_told in
     let place = vec_len a.endings in
@@ -212,6 +221,8 @@ still_told terms form old before mid p q a tale new founds below more same t = r
   endings = t.endings;
   notables = t.notables;
   counts = t.counts;
+  begun = t.begun;
+  flags = t.flags;
   total_is = t.total_is;
   room = t.room;
   notables_room = t.notables_room;
@@ -330,7 +341,7 @@ module _ (terms : Terms) (form : Form) (now : List Sighted) (mid after : Seen) (
 
   abbrev Stops : Result Bool Cause → Type 0
   Stops r = IfErr r (λ cause. (old : List Sighted) (before : Seen) → Stands terms form old now before mid p a →
-      WasTold terms form old now before after b.endings.items b.notables.items b.counts (Some cause))
+      HasTold terms form old now before after b (Some cause))
 
   abbrev Tellings : Result Bool Cause → Type 0
   Tellings r = KeepsStanding r × Untouched r × Stops r
@@ -338,7 +349,7 @@ module _ (terms : Terms) (form : Form) (now : List Sighted) (mid after : Seen) (
   not_told : (after ≡ mid) × (b ≡ a) → Tellings (Ok false)
   not_told same = ((λ e old before st. cc (e)), (λ e. same), tt)
 
-  found_told : (g : intake.Found) (r : Result Bool Cause) → slice_get p.tracks.items (vec_len a.endings) ≡ Some (tracks.Found g) →
+  found_told : (g : model.Found) (r : Result Bool Cause) → slice_get p.tracks.items (vec_len a.endings) ≡ Some (tracks.Found g) →
       TellsFound form name g mid after a b r → Tellings r
   found_told g (Ok true) at tells = (
     (λ e old before st. told_stands terms form old now before mid after p a b g name below at named tells.0 tells.1 st),
@@ -349,13 +360,13 @@ module _ (terms : Terms) (form : Form) (now : List Sighted) (mid after : Seen) (
   found_told g (Err Memory) at tells = (
     tt,
     tt,
-    λ old before st. subst (λ (t : Told). WasTold terms form old now before after t.endings.items t.notables.items t.counts (Some Memory)) (sym tells.1)
+    λ old before st. subst (λ (t : Told). HasTold terms form old now before after t (Some Memory)) (sym tells.1)
         (memory_stops terms form old now now before mid after p a st (λ s less. refl) refl tells.0),
   )
   found_told g (Err Write) at tells = (
     tt,
     tt,
-    λ old before st. subst (λ (t : Told). WasTold terms form old now before after t.endings.items t.notables.items t.counts (Some Write)) (sym tells.1)
+    λ old before st. subst (λ (t : Told). HasTold terms form old now before after t (Some Write)) (sym tells.1)
         (line_stops terms form old now before mid after p a g name below at named tells.0 st),
   )
 
@@ -368,9 +379,9 @@ module _ (terms : Terms) (form : Form) (now : List Sighted) (mid after : Seen) (
   telling (tracks.Arrived bytes ending chunks known) (Ok false) at tells = not_told tells
   telling (tracks.Arrived bytes ending chunks known) (Ok true) at tells = absurd tells
   telling (tracks.Arrived bytes ending chunks known) (Err cause) at tells = absurd tells
-  telling (tracks.Checking bytes ending) (Ok false) at tells = not_told tells
-  telling (tracks.Checking bytes ending) (Ok true) at tells = absurd tells
-  telling (tracks.Checking bytes ending) (Err cause) at tells = absurd tells
+  telling (tracks.Checking bytes ending begun) (Ok false) at tells = not_told tells
+  telling (tracks.Checking bytes ending begun) (Ok true) at tells = absurd tells
+  telling (tracks.Checking bytes ending begun) (Err cause) at tells = absurd tells
 
 -- the numbers of what stands
 pub standing_numbers : (terms : Terms) (form : Form) (old now : List Sighted) (before mid : Seen) (p : Underway) (a : Told) →
@@ -446,6 +457,8 @@ begun_stands terms form old before p a is = record {
     endings = is.endings;
     notables = is.notables;
     counts = is.counts;
+    begun = none_begun terms a.begun is.begun;
+    flags = is.flags;
     total_is = ap total is.counts;
     room = is.room;
     notables_room = is.notables_room;
@@ -457,7 +470,7 @@ begun_stands terms form old before p a is = record {
 -- at the end: all sources are told
 pub all_done : (terms : Terms) (form : Form) (old now : List Sighted) (before mid : Seen) (p : Underway) (a : Told) →
     vec_len a.endings ≡ length now → Stands terms form old now before mid p a →
-    WasTold terms form old now before mid a.endings.items a.notables.items a.counts None
+    HasTold terms form old now before mid a None
 all_done terms form old now before mid p a all st =
     let told_all : length st.founds ≡ length old =
     sym (a.endings.ok.0 ∙ (ap length st.are_told.endings ∙ length-map st.founds ending_of))

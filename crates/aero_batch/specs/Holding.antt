@@ -8,6 +8,7 @@ use Rattle.aero_model.specs.Verdicts.{no_counts, total}
 use Rattle.aero_report.specs.declared.form.Form.{Form}
 use Rattle.aero_batch.specs.declared.underway.Underway.{Underway}
 use Rattle.aero_telling.specs.declared.told.Told.{Told}
+use Rattle.aero_telling.specs.Labels.{AreBegunAmong, HasFlagsFor, HasNoneBegun}
 use Rattle.aero_telling.specs.Founds.{Sighted, whose, Found, Took, ending_of, counts_of_all, lines_of_all, notable}
 use Rattle.aero_intake.specs.Intake.{IsTaken, HasCome}
 use Rattle.aero_intake.specs.Source.{WasRead}
@@ -86,6 +87,8 @@ pub record AreTold (terms : Terms) (form : Form) (old : List Sighted) (before af
   pub endings : told.endings.items ≡ map ending_of founds
   pub notables : told.notables.items ≡ map notable founds
   pub counts : told.counts ≡ counts_of_all founds
+  pub begun : AreBegunAmong terms founds told.begun
+  pub flags : HasFlagsFor terms.rules.labels.labels told.begun
   pub total_is : total told.counts ≡ length founds
   pub room : vec_capacity told.endings ≡ length old
   pub notables_room : vec_capacity told.notables ≡ length old
@@ -116,5 +119,7 @@ pub record IsBegun (terms : Terms) (sources : ℕ) (p : Underway) (told : Told) 
   pub endings : told.endings.items ≡ []
   pub notables : told.notables.items ≡ []
   pub counts : told.counts ≡ no_counts
+  pub begun : HasNoneBegun told.begun
+  pub flags : HasFlagsFor terms.rules.labels.labels told.begun
   pub room : vec_capacity told.endings ≡ sources
   pub notables_room : vec_capacity told.notables ≡ sources

@@ -4,14 +4,15 @@ use Rattle.aero_model.specs.CallCounts.{Seen}
 use Rattle.aero_telling.specs.declared.cause.Cause.{Cause}
 use Rattle.aero_telling.specs.declared.told.Told.{Told}
 use Rattle.aero_batch.specs.declared.underway.Underway.{Underway}
-use Rattle.aero_telling.specs.Founds.{Sighted, WasTold}
+use Rattle.aero_telling.specs.Founds.{Sighted}
+use Rattle.aero_telling.specs.Labels.{HasTold}
 use Rattle.aero_batch.specs.Holding.{Stands}
 use Rattle.aero_intake.specs.declared.plan.Plan.{Plan}
 use Rattle.aero_intake.specs.PlanTerms.{terms_of}
 
 -- a run by the plan that told this, without a summary, and stopped so
 abbrev pub HasRun : Plan → List Sighted → List Sighted → Seen → Seen → Told → Option Cause → Type 0
-HasRun plan old new before after told cause = WasTold (terms_of plan) plan.form old new before after told.endings.items told.notables.items told.counts cause
+HasRun plan old new before after told cause = HasTold (terms_of plan) plan.form old new before after told cause
 
 -- between two steps of a run by the plan
 abbrev pub StandsBy : Plan → List Sighted → List Sighted → Seen → Seen → Underway → Told → Type 0

@@ -67,7 +67,8 @@ abbrev pub told_there : Option Track → Bool
 told_there None = false
 told_there (Some track) = is_told track
 
--- Its next chunk counts: nothing of it was passed over, no line is known to be malformed, or one too many, and no verdict to be certain.
+-- Its next chunk counts: nothing of it was passed over, no line is known to be malformed, or one too many, and no verdict to be certain, unless a listed
+-- label is missing.
 pub record GoesOn (p : Underway) : Type 0 where
   pub none_passed : p.intake.passed ≡ false
   pub no_fault : has_fault p ≡ false
@@ -88,8 +89,8 @@ last_of cutting endings.Stopped = None
 abbrev pub ended_track : Ending → ℕ → ℕ → Track → Track
 ended_track endings.Whole bytes chunks t = with_arrival t bytes endings.Whole chunks
 ended_track endings.Stopped bytes chunks t = with_arrival t bytes endings.Stopped chunks
-ended_track endings.Broken bytes chunks t = Found (record { bytes = bytes; ending = endings.Broken; finding = findings.Broken bytes })
-ended_track endings.TooLarge bytes chunks t = Found (record { bytes = bytes; ending = endings.TooLarge; finding = findings.TooLarge })
+ended_track endings.Broken bytes chunks t = Found (record { bytes = bytes; ending = endings.Broken; finding = findings.Broken bytes; begun = None })
+ended_track endings.TooLarge bytes chunks t = Found (record { bytes = bytes; ending = endings.TooLarge; finding = findings.TooLarge; begun = None })
 
 -- The source that was being read has ended so, and the next one is to be read.
 pub record EndsSource (ending : Ending) (old new : Underway) : Type 0 where

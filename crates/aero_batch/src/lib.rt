@@ -42,8 +42,10 @@
 //!   of the next text follows: `ran`.
 //! - It holds of each run that returns, whichever answers come, in whatever order, lost, repeated or forged. Any
 //!   `Helpers` may give them, of which a `Crew` is one, or nobody: `run_over`.
+//! - Of each label of the list it is told whether a block of a source begins with it, or nothing, if a source wasn't read to
+//!   its end or has a malformed line, or the plan stops early: `labels`, over `AreLabelsOf`.
 //! - A chunk is asked about only while nothing of its source was passed over, and it isn't told that what was read
-//!   decides: `step`, over `GoesOn`. The value of a chunk goes to its source's track, of which as much is kept as the
+//!   decides: `step`, over `GoesOn`. It isn't told while a label of the list is missing, unless the plan stops early. The value of a chunk goes to its source's track, of which as much is kept as the
 //!   plan says: `give_value`.
 //! - `run_over` says how many helpers it had, and `run` no more than were asked for: `workers`. Answers kept and values
 //!   worked out here are no more than the questions, and as many where nothing was refused: `tallied`, `all_settled`.

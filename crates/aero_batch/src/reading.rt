@@ -252,5 +252,6 @@ fn end_track(track: &mut Track, ending: Ending, bytes: u64, chunks: u64)
         bytes,
         ending,
         finding,
+        begun: None,
     });
 }

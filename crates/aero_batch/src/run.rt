@@ -9,6 +9,7 @@ ghost use Rattle.aero_telling.specs.Founds.{sighted, WasRun, WasTold};
 ghost use Rattle.aero_batch.specs.Inquiries.{open_count};
 ghost use Rattle.aero_batch.specs.Holding.{HasNumbers, IsBegun};
 ghost use Rattle.aero_batch.specs.Runs.{HasRun, KeepsStanding, StopsRun};
+ghost use Rattle.aero_telling.specs.Labels.{AreLabelsOf, HasNoneBegun};
 ghost use Rattle.aero_telling.specs.Telling.{SumsUp};
 
 use crate::helpers::{Helpers, Nobody};
@@ -19,7 +20,7 @@ use crate::step::step;
 use crate::tell::tell_next;
 use crate::underway::Underway;
 use aero_gather::Tally;
-use aero_intake::{Followed, Plan, Source, SourceOf};
+use aero_intake::{Begun, Followed, Plan, Source, SourceOf};
 use aero_model::{Counting, Counts};
 use aero_telling::{Report, Style, Told, sum_up};
 use aero_worker::{Crew, Gate, NoGate};
@@ -51,6 +52,9 @@ pub fn run<R: Read, W: Write, G: Gate + Drop + 'static, T: Threads + Wait + Copy
         (map (sighted (counted R.remaining)) sources.new)
         (seen_by W.contents writer.old) (seen_by W.contents writer.new) result.endings.items
         result.notables.items result.counts result.cause }
+    ensures labels { AreLabelsOf (terms_of plan.now)
+        (map (sighted (counted R.remaining)) sources.old)
+        (map (sighted (counted R.remaining)) sources.new) result.endings.items result.begun }
     ensures all_settled { result.cause ≡ None →
         result.tally.asked ≡ result.tally.kept + result.tally.done_here }
     ensures tallied { result.tally.kept + result.tally.done_here ≤ result.tally.asked }
@@ -81,6 +85,9 @@ pub fn run_over<R: Read, W: Write, H: Helpers, T: Wait>(
         (map (sighted (counted R.remaining)) sources.new)
         (seen_by W.contents writer.old) (seen_by W.contents writer.new) result.endings.items
         result.notables.items result.counts result.cause }
+    ensures labels { AreLabelsOf (terms_of plan.now)
+        (map (sighted (counted R.remaining)) sources.old)
+        (map (sighted (counted R.remaining)) sources.new) result.endings.items result.begun }
     ensures all_settled { result.cause ≡ None →
         result.tally.asked ≡ result.tally.kept + result.tally.done_here }
     ensures tallied { result.tally.kept + result.tally.done_here ≤ result.tally.asked }
@@ -109,6 +116,9 @@ pub fn run_lines<
         (map (sighted R.sight) sources.old) (map (sighted R.sight) sources.new)
         (seen_by W.contents writer.old) (seen_by W.contents writer.new) result.endings.items
         result.notables.items result.counts result.cause }
+    ensures labels { AreLabelsOf (terms_of setting.now.plan.now)
+        (map (sighted R.sight) sources.old) (map (sighted R.sight) sources.new)
+        result.endings.items result.begun }
     ensures all_settled { result.cause ≡ None →
         result.tally.asked ≡ result.tally.kept + result.tally.done_here }
     ensures tallied { result.tally.kept + result.tally.done_here ≤ result.tally.asked }
@@ -135,6 +145,9 @@ pub fn run_lines_over<R: Followed, W: Write, H: Helpers, T: Wait>(
         (map (sighted R.sight) sources.old) (map (sighted R.sight) sources.new)
         (seen_by W.contents writer.old) (seen_by W.contents writer.new) result.endings.items
         result.notables.items result.counts result.cause }
+    ensures labels { AreLabelsOf (terms_of setting.now.plan.now)
+        (map (sighted R.sight) sources.old) (map (sighted R.sight) sources.new)
+        result.endings.items result.begun }
     ensures all_settled { result.cause ≡ None →
         result.tally.asked ≡ result.tally.kept + result.tally.done_here }
     ensures tallied { result.tally.kept + result.tally.done_here ≤ result.tally.asked }
@@ -160,6 +173,7 @@ fn with_summary<W: Write>(
     ensures endings { result.endings ≡ outcome.endings }
     ensures notables { result.notables ≡ outcome.notables }
     ensures counts { result.counts ≡ outcome.counts }
+    ensures begun { result.begun ≡ outcome.begun }
     ensures tally { result.tally ≡ outcome.tally }
     ensures workers { result.workers ≡ outcome.workers }
     ensures summed { SumsUp (summary_line_in plan.now.form (options_in (terms_of plan.now))
@@ -184,7 +198,7 @@ fn begin(alloc: Global, plan: &Plan, sources: usize, is_alone: bool) -> Result<S
     requires { sources ≤ 65536 }
     ensures { IfOk result (λ begun. IsBegun (terms_of plan.now) sources begun.underway begun.told) }
 {
-    let told = Told::new(alloc, sources)?;
+    let told = Told::new(alloc, sources, plan.terms.except())?;
     let underway = Underway::new(alloc, plan, sources, is_alone)?;
     Ok(Standing { underway, told })
 }
@@ -203,6 +217,8 @@ pub fn run_in_turn<R: Followed, W: Write, T: Threads + Wait + Copy + Send + 'sta
         (map (sighted R.sight) result.1.items)
         (seen_by W.contents writer.old) (seen_by W.contents writer.new) result.0.told.endings.items
         result.0.told.notables.items result.0.told.counts result.0.cause }
+    ensures labels { AreLabelsOf (terms_of plan.now) (map (sighted R.sight) sources.items)
+        (map (sighted R.sight) result.1.items) result.0.told.endings.items result.0.told.begun }
 {
     let Ok(gate) = Arc::new(alloc, NoGate) else {
         return (Report::refused(alloc), sources);
@@ -216,6 +232,7 @@ pub fn run_in_turn<R: Followed, W: Write, T: Threads + Wait + Copy + Send + 'sta
         endings,
         notables,
         counts,
+        begun,
         cause,
         ..
     } = run_lines(&setting, &mut sources, writer, gate);
@@ -223,6 +240,7 @@ pub fn run_in_turn<R: Followed, W: Write, T: Threads + Wait + Copy + Send + 'sta
         endings,
         notables,
         counts,
+        begun,
     };
     (Report { told, cause }, sources)
 }
@@ -232,6 +250,7 @@ fn refused(alloc: Global, workers: u32) -> Outcome
     ensures endings { result.endings.items ≡ [] }
     ensures notables { result.notables.items ≡ [] }
     ensures counts { result.counts ≡ no_counts }
+    ensures begun { HasNoneBegun result.begun }
     ensures cause { result.cause ≡ Some Cause.Memory }
     ensures nothing { (result.tally.asked ≡ 0) × (result.tally.kept ≡ 0) ×
         (result.tally.done_here ≡ 0) }
@@ -246,6 +265,7 @@ fn refused(alloc: Global, workers: u32) -> Outcome
         endings: Vec::new(alloc),
         notables: Vec::new(alloc),
         counts: Counts::none(),
+        begun: Some(Begun::none(alloc)),
         cause: Some(Cause::Memory),
         tally,
         workers,
@@ -257,6 +277,7 @@ fn outcome_of(standing: Standing, cause: Option<Cause>, workers: u32) -> Outcome
     ensures endings { result.endings ≡ standing.told.endings }
     ensures notables { result.notables ≡ standing.told.notables }
     ensures counts { result.counts ≡ standing.told.counts }
+    ensures begun { result.begun ≡ standing.told.begun }
     ensures cause { result.cause ≡ cause }
     ensures asked { result.tally.asked ≡ standing.underway.inquiry.asked }
     ensures tallied { result.tally.kept + result.tally.done_here ≤ result.tally.asked }
@@ -269,11 +290,13 @@ fn outcome_of(standing: Standing, cause: Option<Cause>, workers: u32) -> Outcome
         endings,
         notables,
         counts,
+        begun,
     } = told;
     Outcome {
         endings,
         notables,
         counts,
+        begun,
         cause,
         tally: underway.inquiry.tally(),
         workers,

@@ -14,11 +14,14 @@ use Rattle.aero_lines.specs.Cutting.{nothing_yet, block_of, last_block, blocks_f
 use Rattle.aero_judge.specs.Finding.{IsTraceFinding}
 use Rattle.aero_judge.specs.Judging.{Judging, nothing_judged}
 use Rattle.aero_intake.specs.Alone.{IsFoundIn, StandsAlone, IsJudgedOut}
-use Rattle.aero_intake.specs.Held.{IsDecisive}
+use Rattle.aero_intake.specs.Held.{IsFinal}
+use Rattle.aero_intake.specs.Surveys.{IsSaidOf}
+use Rattle.aero_intake.specs.declared.begun.Begun.{Begun}
 use Rattle.aero_intake.specs.Intake.{Taking, nothing_taken, with_piece, with_cut, with_passing, fed_all, HaveCome, HasCome, Comes, Ends}
 use Rattle.aero_intake.specs.Source.{Closes, Sight, WasRead}
 use Rattle.aero_intake.specs.Stories.{AreEnough, BeginAlike}
 use Rattle.aero_intake.proofs.AsFar.{found_as_far}
+use Rattle.aero_intake.proofs.Begins.{begun_of_text}
 use Rattle.aero_intake.proofs.Taken.{nothing_is_taken, piece_is_held, held_is_cut, held_is_passed, cut_bytes, concat-more, chunks_with_last, nothing_has_come}
 use Rattle.aero_intake.proofs.Taken.{more_has_come, not_stopped, source_was_read, source_was_stopped}
 use Rattle.aero_intake.proofs.Tracked.{enough_asked, alike_dropped, alike_with_more, begin_alike, text_found}
@@ -75,13 +78,13 @@ cut_stands terms before now ended i j k none more is =
     }
 
 -- where no further chunk counts, those that the judge was fed decide
-enough_begun : (terms : Terms) (before now : Sight) (ended : Option Ending) (i : Taking) (j : Judging) → (i.passed ≡ true) ⊎ IsDecisive terms j.parts →
+enough_begun : (terms : Terms) (before now : Sight) (ended : Option Ending) (i : Taking) (j : Judging) → (i.passed ≡ true) ⊎ IsFinal terms j.parts →
     (is : StandsAlone terms before now ended i j) → BeginAlike terms is.fed is.cut
 enough_begun terms before now ended i j (inl passed) is = is.passed passed
-enough_begun terms before now ended i j (inr decided) is = begin_alike terms is.fed is.cut (subst (λ rs. IsDecisive terms rs) is.parts decided) is.enough
+enough_begun terms before now ended i j (inr decided) is = begin_alike terms is.fed is.cut (subst (λ rs. IsFinal terms rs) is.parts decided) is.enough
 
 -- what is held was passed over
-pub pass_stands : (terms : Terms) (before now : Sight) (ended : Option Ending) (i : Taking) (j : Judging) → (i.passed ≡ true) ⊎ IsDecisive terms j.parts →
+pub pass_stands : (terms : Terms) (before now : Sight) (ended : Option Ending) (i : Taking) (j : Judging) → (i.passed ≡ true) ⊎ IsFinal terms j.parts →
     StandsAlone terms before now ended i j → StandsAlone terms before now ended (with_passing i) j
 pass_stands terms before now ended i j enough is =
     let chunk = option_to_list (block_of (fed_all nothing_yet is.pieces) i.held) in
@@ -98,7 +101,7 @@ pass_stands terms before now ended i j enough is =
     }
 
 -- the source is read no further, its reader is closed, and what is held was passed over
-pub stop_stands : (terms : Terms) (before mid now : Sight) (i : Taking) (j : Judging) → Closes mid now → (i.passed ≡ true) ⊎ IsDecisive terms j.parts →
+pub stop_stands : (terms : Terms) (before mid now : Sight) (i : Taking) (j : Judging) → Closes mid now → (i.passed ≡ true) ⊎ IsFinal terms j.parts →
     terms.stop ≡ true → i.count ≤ terms.rules.limits.bytes → StandsAlone terms before mid None i j →
     StandsAlone terms before now (Some Stopped) (with_passing i) j
 stop_stands terms before mid now i j closes enough stop within is =
@@ -151,7 +154,7 @@ last_judged terms before now i j k none_held none_passed more is =
     }
 
 -- the last line of a whole source doesn't count
-pub last_passed : (terms : Terms) (before now : Sight) (i : Taking) (j : Judging) → i.held ≡ [] → (i.passed ≡ true) ⊎ IsDecisive terms j.parts →
+pub last_passed : (terms : Terms) (before now : Sight) (i : Taking) (j : Judging) → i.held ≡ [] → (i.passed ≡ true) ⊎ IsFinal terms j.parts →
     StandsAlone terms before now (Some Whole) i j → IsJudgedOut terms before now i.count j
 last_passed terms before now i j none_held enough is =
     let last = option_to_list (last_block (fed_all nothing_yet is.pieces)) in
@@ -172,19 +175,20 @@ found_on terms j fed f on parts found =
     found_as_far (map reading_of fed) terms f
     (subst (λ (t : Terms). IsTraceFinding (map reading_of fed) t f) on (subst (λ rs. IsTraceFinding rs j.terms f) parts found))
 
-pub found_whole : (terms : Terms) (before now : Sight) (count : ℕ) (j : Judging) (f : Finding) → j.terms ≡ to_the_end terms →
-    IsJudgedOut terms before now count j → IsTraceFinding j.parts j.terms f →
-    IsFoundIn terms before now (record { bytes = count; ending = Whole; finding = f })
-found_whole terms before now count j f on out found = record {
+pub found_whole : (terms : Terms) (before now : Sight) (count : ℕ) (j : Judging) (f : Finding) (begun : Option Begun) → j.terms ≡ to_the_end terms →
+    IsJudgedOut terms before now count j → IsSaidOf terms j.parts Whole begun → IsTraceFinding j.parts j.terms f →
+    IsFoundIn terms before now (record { bytes = count; ending = Whole; finding = f; begun = begun })
+found_whole terms before now count j f begun on out said found = record {
   bytes = concat out.pieces;
   read = out.read;
   count = out.bytes;
   finding = merely (text_found terms out.fed out.pieces f out.enough (found_on terms j out.fed f on out.parts found));
+  begun = begun_of_text terms out.fed out.pieces begun out.enough (subst (λ rs. IsSaidOf terms rs Whole begun) out.parts said);
 }
 
 pub found_stopped : (terms : Terms) (before now : Sight) (i : Taking) (j : Judging) (f : Finding) → j.terms ≡ to_the_end terms →
     StandsAlone terms before now (Some Stopped) i j → IsTraceFinding j.parts j.terms f →
-    IsFoundIn terms before now (record { bytes = i.count; ending = Stopped; finding = f })
+    IsFoundIn terms before now (record { bytes = i.count; ending = Stopped; finding = f; begun = None })
 found_stopped terms before now i j f on is found =
     let stopped = is.stopped refl in
     let alike = is.passed stopped.1 in
@@ -201,22 +205,25 @@ found_stopped terms before now i j f on is found =
             (text_found terms is.fed (is.pieces ++ (i.held ++ more) ∷ []) f
             (inr (alike_with_more terms is.fed is.cut is.pieces i (i.held ++ more) is.taken alike)) on_fed),
       );
+      begun = inr (inl refl);
     }
 
 pub found_broken : (terms : Terms) (before now : Sight) (i : Taking) (j : Judging) → StandsAlone terms before now (Some Broken) i j →
-    IsFoundIn terms before now (record { bytes = i.count; ending = Broken; finding = findings.Broken i.count })
+    IsFoundIn terms before now (record { bytes = i.count; ending = Broken; finding = findings.Broken i.count; begun = None })
 found_broken terms before now i j is = record {
   bytes = concat is.pieces ++ i.held;
   read = is.come;
   count = is.taken.count;
   finding = merely (ap findings.Broken is.taken.count);
+  begun = inr (inl refl);
 }
 
 pub found_too_large : (terms : Terms) (before now : Sight) (i : Taking) (j : Judging) → StandsAlone terms before now (Some TooLarge) i j →
-    IsFoundIn terms before now (record { bytes = i.count; ending = TooLarge; finding = findings.TooLarge })
+    IsFoundIn terms before now (record { bytes = i.count; ending = TooLarge; finding = findings.TooLarge; begun = None })
 found_too_large terms before now i j is = record {
   bytes = concat is.pieces ++ i.held;
   read = is.come;
   count = is.taken.count;
   finding = merely refl;
+  begun = inr (inl refl);
 }

@@ -3,22 +3,31 @@ use Rattle.std.proofs.Common.{◌≡◌, ◌≢◌, ◌<◌, ◌⊎◌, ℕ, suc
 use Rattle.std.specs.Prelude.{is_some, option_map, if◌then◌else◌, bytes_eq, flat_map, fold, option_to_list}
 use Rattle.std.specs.List.{concat, list_all, list_any, position, slice_set}
 use Rattle.std.proofs.lemmas.Bool.{cases_Bool, cases_eq, or_left, or_right, true≢false}
+use Rattle.std.proofs.lemmas.List.{map-append}
 use Rattle.std.proofs.lemmas.List.Folds.{list_any-append, list_all_at}
 use Rattle.std.proofs.lemmas.List.Quantifiers.{position-Some}
 use Rattle.std.proofs.lemmas.Slice.Eq.{bytes_eq-Decides}
 use Rattle.aero_model.specs.declared.limits.Limits.{Limits}
 use Rattle.aero_model.specs.declared.numbered.Numbered.{Numbered}
+use Rattle.aero_model.specs.declared.verdict.Ending.TheVariants.{Whole}
 use Rattle.aero_model.specs.declared.verdict.LineFault.{LineFault}
 use Rattle.aero_model.specs.Exempt.{label_of}
 use Rattle.aero_model.specs.Named.{Named}
 use Rattle.aero_model.specs.Numbering.{Tables, different_names, with_name}
-use Rattle.aero_model.specs.Terms.{Rules}
+use Rattle.aero_model.specs.Terms.{Rules, Terms}
 use Rattle.aero_grammar.specs.Reading.{Reading, after_lines, fault_within, followed_by, malformed_line, reading_of, whole_reading}
 use Rattle.aero_grammar.specs.Tabled.{IsBlock, labels_named, lines_in}
+use Rattle.aero_grammar.proofs.Joined.{whole_reading-append}
+use Rattle.aero_lines.specs.Cutting.{nothing_yet, blocks_from}
 use Rattle.aero_verdict.proofs.Readings.{after_faulty, after_faultless, begins_with}
-use Rattle.aero_intake.specs.Begun.{begins, begins_in, is_label}
-use Rattle.aero_intake.specs.Held.{decides}
+use Rattle.aero_intake.specs.Begun.{AreBegun, AreNoted, all_begin, begins, begins_in, is_label, is_read_through, noted_at}
+use Rattle.aero_intake.specs.Held.{decides, IsFinal}
+use Rattle.aero_intake.specs.Stories.{AreEnough, BeginAlike}
+use Rattle.aero_intake.specs.Surveys.{IsSaidBy, IsSaidOf, IsSaidUnless}
+use Rattle.aero_intake.specs.declared.begun.Begun.{Begun}
 use Rattle.aero_intake.proofs.Decided.{front_counts}
+use Rattle.aero_intake.proofs.Decisive.{faulty_decides, more_decide}
+use Rattle.aero_intake.proofs.Judged.{chunks_read}
 
 -- tests
 
@@ -97,7 +106,7 @@ faultless_parts r more none = go (is_some r.fault) refl
     go false e = (
       e,
       sym (later_fault r.lines (whole_reading more).fault)
-      ∙ (sym (ap (λ (x : Reading). is_some x.fault) (after_faultless r (whole_reading more) e)) ∙ none),
+          ∙ (sym (ap (λ (x : Reading). is_some x.fault) (after_faultless r (whole_reading more) e)) ∙ none),
     )
 
 -- the chunks begin blocks as their text does, if no line is malformed
@@ -127,6 +136,111 @@ decides_more rules parts more is = sym (ap is_some (front_counts rules parts mor
 
 pub begins_more : (parts more : List Reading) (label : List ℕ) → begins_in parts label ≡ true → begins_in (parts ++ more) label ≡ true
 begins_more parts more label is = list_any-append (begins label) parts more ∙ or_left (begins_in parts label) (begins_in more label) is
+
+pub faulty_final : (terms : Terms) (parts : List Reading) → decides terms.rules.limits parts ≡ true → IsFinal terms parts
+faulty_final terms parts is = record { decisive = faulty_decides terms parts is; labels = inr (inl is) }
+
+pub more_final : (terms : Terms) (parts : List Reading) (chunks : List (List ℕ)) → IsFinal terms parts → IsFinal terms (parts ++ map reading_of chunks)
+more_final terms parts chunks is = record {
+  decisive = more_decide terms parts chunks is.decisive;
+  labels = elim is.labels [
+    | inl stop ↦ inl stop
+    | inr needs ↦ elim needs [
+      | inl faulty ↦ inr (inl (decides_more terms.rules parts chunks faulty))
+      | inr all ↦ inr (inr (all_weaker (begins_in parts) (begins_in (parts ++ map reading_of chunks)) (begins_more parts (map reading_of chunks)) terms.rules.labels.labels all))
+    ]
+  ];
+}
+
+-- what enough chunks say of the labels is what the text that the pieces are says
+pub begun_of_text : (terms : Terms) (asked pieces : List (List ℕ)) (begun : Option Begun) → AreEnough terms asked (blocks_from nothing_yet pieces) →
+    IsSaidOf terms (map reading_of asked) Whole begun → AreBegun terms (concat pieces) Whole begun
+begun_of_text terms asked pieces begun enough said = elim (cases_Bool terms.stop) [
+  | inl stop ↦
+      let none : begun ≡ None = subst (λ s. IsSaidUnless s terms.rules (map reading_of asked) begun) stop said in
+      subst (AreBegun terms (concat pieces) Whole) (sym none) (inl stop)
+  | inr on ↦ by on enough begun (subst (λ s. IsSaidUnless s terms.rules (map reading_of asked) begun) on said)
+]
+  where
+    rules : Rules
+    rules = terms.rules
+
+    all : List (List ℕ)
+    all = blocks_from nothing_yet pieces
+
+    text : Reading
+    text = reading_of (concat pieces)
+
+    faults_same : decides rules.limits (map reading_of all) ≡ is_some (malformed_line rules.limits.lines text)
+    faults_same = ap (λ (r : Reading). is_some (malformed_line rules.limits.lines r)) (chunks_read pieces)
+
+    faulty_text : decides rules.limits (map reading_of all) ≡ true → is_read_through rules (concat pieces) Whole ≡ false
+    faulty_text is = ap not (sym faults_same ∙ is)
+
+    joined : (chunks front rest : List (List ℕ)) → chunks ≡ front ++ rest → map reading_of chunks ≡ map reading_of front ++ map reading_of rest
+    joined chunks front rest are = ap (map reading_of) are ∙ map-append reading_of front rest
+
+    by_all : asked ≡ all → (begun : Option Begun) → IsSaidBy rules.limits rules.labels.labels (map reading_of asked) begun → AreBegun terms (concat pieces) Whole begun
+    by_all same None said = inr (inl (faulty_text (subst (λ bs. decides rules.limits (map reading_of bs) ≡ true) same said)))
+    by_all same (Some b) said =
+        let here = subst (λ bs. IsSaidBy rules.limits rules.labels.labels (map reading_of bs) (Some b)) same said in (
+          inl (ap not (sym faults_same ∙ here.0)),
+          λ place label at. here.1 place label at
+              ∙ (sym (begins_parts label (map reading_of all) (no_fault rules.limits (map reading_of all) here.0)) ∙ ap (begins label) (chunks_read pieces)),
+        )
+
+    by_fault : (alike : BeginAlike terms asked all) → decides rules.limits (map reading_of alike.front) ≡ true → (begun : Option Begun) →
+        IsSaidBy rules.limits rules.labels.labels (map reading_of asked) begun → AreBegun terms (concat pieces) Whole begun
+    by_fault alike faulty None said =
+        inr (inl (faulty_text (subst (λ rs. decides rules.limits rs ≡ true) (sym (joined all alike.front alike.others alike.all_are))
+        (decides_more rules (map reading_of alike.front) alike.others faulty))))
+    by_fault alike faulty (Some b) said =
+        absurd (not_both (decides rules.limits (map reading_of asked)) (subst (λ rs. decides rules.limits rs ≡ true) (sym (joined asked alike.front alike.rest alike.asked_are))
+        (decides_more rules (map reading_of alike.front) alike.rest faulty)) said.0)
+
+    by_labels : (alike : BeginAlike terms asked all) → decides rules.limits (map reading_of alike.front) ≡ false →
+        list_all (begins_in (map reading_of alike.front)) rules.labels.labels ≡ true → (begun : Option Begun) →
+        IsSaidBy rules.limits rules.labels.labels (map reading_of asked) begun → AreBegun terms (concat pieces) Whole begun
+    by_labels alike faultless front_all = go
+      where
+        front : List Reading
+        front = map reading_of alike.front
+
+        in_text : (label : List ℕ) → begins_in front label ≡ true → begins label text ≡ true
+        in_text label is =
+            let here : begins label (whole_reading front) ≡ true = begins_parts label front (no_fault rules.limits front faultless) ∙ is in
+            let there = begins_first label (whole_reading front) (whole_reading (map reading_of alike.others)) here in
+            let same : text ≡ followed_by (whole_reading front) (whole_reading (map reading_of alike.others)) =
+            sym (chunks_read pieces) ∙ (ap whole_reading (joined all alike.front alike.others alike.all_are) ∙ whole_reading-append front (map reading_of alike.others)) in
+            ap (begins label) same ∙ there
+
+        text_all : all_begin rules (concat pieces) ≡ true
+        text_all = all_weaker (begins_in front) (λ label. begins label text) in_text rules.labels.labels front_all
+
+        go : (begun : Option Begun) → IsSaidBy rules.limits rules.labels.labels (map reading_of asked) begun → AreBegun terms (concat pieces) Whole begun
+        go None said = inr (inr text_all)
+        go (Some b) said = (
+          inr text_all,
+          λ place label at.
+              let listed = listed_holds (begins_in front) rules.labels.labels place label at front_all in
+              let in_asked : begins_in (map reading_of asked) label ≡ true =
+              ap (λ rs. begins_in rs label) (joined asked alike.front alike.rest alike.asked_are) ∙ begins_more front (map reading_of alike.rest) label listed in
+              said.1 place label at ∙ (in_asked ∙ sym (in_text label listed)),
+        )
+
+    by : terms.stop ≡ false → AreEnough terms asked all → (begun : Option Begun) → IsSaidBy rules.limits rules.labels.labels (map reading_of asked) begun →
+        AreBegun terms (concat pieces) Whole begun
+    by on (inl same) begun said = by_all same begun said
+    by on (inr alike) begun said = elim (cases_Bool (decides rules.limits (map reading_of alike.front))) [
+      | inl faulty ↦ by_fault alike faulty begun said
+      | inr faultless ↦ elim alike.decided.labels [
+        | inl stop ↦ absurd (not_both terms.stop stop on)
+        | inr needs ↦ elim needs [
+          | inl faulty ↦ by_fault alike faulty begun said
+          | inr front_all ↦ by_labels alike faultless front_all begun said
+        ]
+      ]
+    ]
 
 -- the table of a block's labels
 

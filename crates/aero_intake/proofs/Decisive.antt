@@ -17,7 +17,7 @@ use Rattle.aero_verdict.specs.Ordered.{has_order, is_faultless}
 use Rattle.aero_verdict.specs.Verdict.{IsVerdict}
 use Rattle.aero_verdict.proofs.OneVerdict.{one_verdict}
 use Rattle.aero_verdict.proofs.Staying.{certain_more}
-use Rattle.aero_intake.specs.Held.{decides, IsDecisive}
+use Rattle.aero_intake.specs.Held.{decides, IsDecisive, IsFinal}
 use Rattle.aero_intake.proofs.Decided.{first_parts_decide}
 use Rattle.aero_intake.proofs.Judged.{alike_back, same_finding}
 

@@ -23,7 +23,10 @@ use Rattle.aero_pieces.specs.declared.answer.Value.TheVariants.{Parsed, Judged, 
 use Rattle.aero_pieces.specs.Values.{IsValueOf}
 use Rattle.aero_judge.specs.Finding.{IsFinding, IsTraceFinding}
 use Rattle.aero_model.specs.Terms.{Terms, on, ruled, to_the_end}
-use Rattle.aero_intake.specs.Held.{Known, with_next, IsDecisive}
+use Rattle.aero_intake.specs.Begun.{AreBegun}
+use Rattle.aero_intake.specs.Held.{Known, with_next, IsFinal}
+use Rattle.aero_intake.specs.Surveys.{IsSaidOf}
+use Rattle.aero_intake.specs.declared.begun.Begun.{Begun}
 use Rattle.aero_intake.specs.Intake.{Taking, IsTaken}
 use Rattle.aero_intake.specs.declared.track.Track.{Track}
 use Rattle.aero_intake.specs.declared.track.Track.TheVariants.{Arriving, Arrived, Checking, Found}
@@ -31,7 +34,7 @@ use Rattle.aero_intake.specs.Stories.{Story, Asked, AreEnough, BeginAlike, own_c
 use Rattle.aero_intake.specs.Stories.{IsTracked, AreTracked, changed, trace_of}
 use Rattle.aero_intake.specs.Tracks.{with_finding, with_value}
 use Rattle.aero_intake.proofs.AsFar.{found_as_far, found_to_the_end}
-use Rattle.aero_intake.proofs.Decisive.{more_decide}
+use Rattle.aero_intake.proofs.Begins.{begun_of_text, more_final}
 use Rattle.aero_intake.proofs.Judged.{judged_alike, same_finding}
 use Rattle.aero_intake.proofs.Taken.{concat-more, chunks_with_more}
 use Rattle.aero_intake.proofs.Values.{parsed_value, not_judged, not_ordered, not_explained, not_opened, not_parsed}
@@ -108,9 +111,10 @@ settled_other terms q rest s story (Arrived bytes ending chunks known) no_chunk 
   subst (λ cs. cs ++ checks_asked s rest ≡ []) no_check is.1,
   is.2,
 )
-settled_other terms q rest s story (Checking bytes ending) no_chunk no_check is = (
+settled_other terms q rest s story (Checking bytes ending begun) no_chunk no_check is = (
   subst (λ cs. All (λ a. a ≡ record { parts = map reading_of story.chunks; terms = to_the_end terms }) (cs ++ checks_asked s rest)) no_check is.0,
   is.1,
+  is.2,
 )
 settled_other terms q rest s story (Found g) no_chunk no_check is = is
 
@@ -132,8 +136,8 @@ enough_found terms asked all f (inl same) is = subst (λ bs. IsTraceFinding (map
 enough_found terms asked all f (inr alike) is =
     let joined : (chunks rest : List (List ℕ)) → chunks ≡ alike.front ++ rest → map reading_of chunks ≡ map reading_of alike.front ++ map reading_of rest =
     λ chunks rest are. ap (map reading_of) are ∙ map-append reading_of alike.front rest in
-    let first = (alike.decided alike.rest f).0 (subst (λ rs. IsTraceFinding rs terms f) (joined asked alike.rest alike.asked_are) is) in
-    subst (λ rs. IsTraceFinding rs terms f) (sym (joined all alike.others alike.all_are)) ((alike.decided alike.others f).1 first)
+    let first = (alike.decided.decisive alike.rest f).0 (subst (λ rs. IsTraceFinding rs terms f) (joined asked alike.rest alike.asked_are) is) in
+    subst (λ rs. IsTraceFinding rs terms f) (sym (joined all alike.others alike.all_are)) ((alike.decided.decisive alike.others f).1 first)
 
 -- one more chunk is asked about, or none
 pub enough_asked : (terms : Terms) (asked all more : List (List ℕ)) → AreEnough terms asked all → AreEnough terms (asked ++ more) (all ++ more)
@@ -166,7 +170,7 @@ alike_with_more terms asked cut pieces i more taken alike =
     subst (λ bs. BeginAlike terms asked bs) all.1 (alike_dropped terms asked cut all.0 alike)
 
 -- those that were asked about decide
-pub begin_alike : (terms : Terms) (asked all : List (List ℕ)) → IsDecisive terms (map reading_of asked) → AreEnough terms asked all → BeginAlike terms asked all
+pub begin_alike : (terms : Terms) (asked all : List (List ℕ)) → IsFinal terms (map reading_of asked) → AreEnough terms asked all → BeginAlike terms asked all
 begin_alike terms asked all decided (inl same) = record {
   front = asked;
   rest = [];
@@ -204,6 +208,14 @@ trace_found ending terms story bytes parts asked f same has known =
     ∥∥₁_elim there squash₁ (λ found. merely (source_found ending terms story bytes (length story.chunks) f has
     (found_as_far (map reading_of story.chunks) terms f found)))
 
+-- what the chunks that were asked about say of the labels is so of the source, as far as it came
+source_begun : (ending : Ending) (terms : Terms) (story : Story) (bytes chunks : ℕ) (begun : Option Begun) → HasArrived terms story bytes ending chunks →
+    IsSaidOf terms (map reading_of story.chunks) ending begun → AreBegun terms (concat story.pieces) ending begun
+source_begun endings.Whole terms story bytes chunks begun has said = begun_of_text terms story.chunks story.pieces begun has.enough said
+source_begun endings.Stopped terms story bytes chunks begun has said = subst (λ o. AreBegun terms (concat story.pieces) endings.Stopped o) (sym said) (inr (inl refl))
+source_begun endings.Broken terms story bytes chunks begun has said = absurd has.enough
+source_begun endings.TooLarge terms story bytes chunks begun has said = absurd has.enough
+
 -- what is known of the source whose trace was checked
 settled_check : (terms : Terms) (trace : ℕ) (parts : List Reading) (limits : Limits) (labels : Listed) (end order explain : Bool) (rest : List Question)
     (s : ℕ) (story : Story) (t : Track) (f : Finding) →
@@ -213,12 +225,16 @@ settled_check terms trace parts limits labels end order explain rest s story (Ar
     (record { on = is.0.on; all = is.0.all }, nil_right (own_check s (Check trace parts limits labels end order explain)) (checks_asked s rest) is.1, is.2)
 settled_check terms trace parts limits labels end order explain rest s story (Arrived n ending chunks k) f same known is =
     (record { on = is.0.on; all = is.0.all }, nil_right (own_check s (Check trace parts limits labels end order explain)) (checks_asked s rest) is.1, is.2)
-settled_check terms trace parts limits labels end order explain rest s story (Checking n ending) f same known is =
+settled_check terms trace parts limits labels end order explain rest s story (Checking n ending begun) f same known is =
     let all = subst (λ cs. All (λ a. a ≡ record { parts = map reading_of story.chunks; terms = to_the_end terms }) (cs ++ checks_asked s rest))
     (own_check-same s trace parts limits labels end order explain same) is.0 in
     let first = All-head (λ a. a ≡ record { parts = map reading_of story.chunks; terms = to_the_end terms })
-    (record { parts = parts; terms = on (ruled limits labels end) order explain }) (checks_asked s rest) all in
-    (is.1.ended, is.1.byte_count, trace_found ending terms story n parts (on (ruled limits labels end) order explain) f first is.1 known)
+    (record { parts = parts; terms = on (ruled limits labels end) order explain }) (checks_asked s rest) all in (
+      is.1.ended,
+      is.1.byte_count,
+      trace_found ending terms story n parts (on (ruled limits labels end) order explain) f first is.1 known,
+      source_begun ending terms story n (length story.chunks) begun is.1 is.2,
+    )
 settled_check terms trace parts limits labels end order explain rest s story (Found g) f same known is = is
 
 -- what is known of the source of which a question is settled
@@ -229,7 +245,7 @@ settled_own terms (Parse trace number bytes) rest s most certain story (Arriving
     (part_settled terms story rest s trace number most certain bytes k r same (parsed_value trace number bytes r known) is.0, is.1, is.2)
 settled_own terms (Parse trace number bytes) rest s most certain story (Arrived n ending chunks k) (Parsed r) same known is =
     (part_settled terms story rest s trace number most certain bytes k r same (parsed_value trace number bytes r known) is.0, is.1, is.2)
-settled_own terms (Parse trace number bytes) rest s most certain story (Checking n ending) (Parsed r) same known is = is
+settled_own terms (Parse trace number bytes) rest s most certain story (Checking n ending begun) (Parsed r) same known is = is
 settled_own terms (Parse trace number bytes) rest s most certain story (Found g) (Parsed r) same known is = is
 settled_own terms (Parse trace number bytes) rest s most certain story t (Judged w) same known is = absurd (not_judged trace number bytes w known)
 settled_own terms (Parse trace number bytes) rest s most certain story t (Ordered w steps) same known is = absurd (not_ordered trace number bytes w steps known)
@@ -282,7 +298,11 @@ asked_other terms qs q s story t other is = go t is
     go : (t : Track) → IsTracked terms qs s story t → IsTracked terms (qs ++ q ∷ []) s story t
     go (Arriving known) is = (settled known is.0, checks ∙ is.1, is.2)
     go (Arrived n ending k known) is = (settled known is.0, checks ∙ is.1, is.2)
-    go (Checking n ending) is = (subst (λ cs. All (λ a. a ≡ record { parts = map reading_of story.chunks; terms = to_the_end terms }) cs) (sym checks) is.0, is.1)
+    go (Checking n ending begun) is = (
+      subst (λ cs. All (λ a. a ≡ record { parts = map reading_of story.chunks; terms = to_the_end terms }) cs) (sym checks) is.0,
+      is.1,
+      is.2,
+    )
     go (Found g) is = is
 
 -- one more chunk of a source that hasn't ended is asked about
@@ -303,13 +323,13 @@ asked_chunk terms qs s number block story pieces known is = (
   refl,
 )
 
--- what is settled of the chunks that were asked about decides, and so do all of them
+-- what is settled of the chunks that were asked about is final, and so are all of them
 pub settled_decide : (terms : Terms) (qs : List Question) (s : ℕ) (story : Story) (known : Known) → AreSettled terms story qs s known →
-    IsDecisive known.terms known.parts →
-    IsDecisive terms (map reading_of story.chunks)
+    IsFinal known.terms known.parts →
+    IsFinal terms (map reading_of story.chunks)
 settled_decide terms qs s story known are is =
-    let here : IsDecisive terms known.parts = subst (λ t. IsDecisive t known.parts) are.on is in
-    subst (IsDecisive terms) are.all (more_decide terms known.parts (chunks_asked s qs) here)
+    let here : IsFinal terms known.parts = subst (λ (t : Terms). IsFinal t known.parts) are.on is in
+    subst (IsFinal terms) are.all (more_final terms known.parts (chunks_asked s qs) here)
 
 no_chunks_left : (readings rs : List Reading) (chunks : List (List ℕ)) (bs : List (List ℕ)) → readings ++ map reading_of bs ≡ map reading_of chunks →
     length readings ≡ length chunks →
@@ -319,11 +339,20 @@ no_chunks_left readings rs chunks (b ∷ bs) is same =
     let lengths : length (readings ++ reading_of b ∷ map reading_of bs) ≡ length (map reading_of chunks) = ap length is in
     absurd (omega (arith, lengths, same, length-append readings (reading_of b ∷ map reading_of bs), length-map chunks reading_of))
 
+-- what the parts say of the labels, the chunks that were asked about say
+said_of_all : (terms : Terms) (ending : Ending) (known : Known) (story : Story) (begun : Option Begun) → known.terms ≡ terms →
+    known.parts ≡ map reading_of story.chunks →
+    IsSaidOf known.terms known.parts ending begun → IsSaidOf terms (map reading_of story.chunks) ending begun
+said_of_all terms ending known story begun on all said =
+    subst (λ (t : Terms). IsSaidOf t (map reading_of story.chunks) ending begun) on
+    (subst (λ rs. IsSaidOf known.terms rs ending begun) all said)
+
 -- the verdict on a whole source is asked for once all its chunks are read
-pub asked_check : (terms : Terms) (qs : List Question) (s bytes : ℕ) (ending : Ending) (chunks : ℕ) (story : Story) (known : Known) → length known.parts ≡ chunks →
+pub asked_check : (terms : Terms) (qs : List Question) (s bytes : ℕ) (ending : Ending) (chunks : ℕ) (story : Story) (known : Known) (begun : Option Begun) →
+    length known.parts ≡ chunks → IsSaidOf known.terms known.parts ending begun →
     IsTracked terms qs s story (Arrived bytes ending chunks known) →
-    IsTracked terms (qs ++ Check s known.parts terms.rules.limits terms.rules.labels terms.rules.end terms.order terms.explain ∷ []) s story (Checking bytes ending)
-asked_check terms qs s bytes ending chunks story known ready is =
+    IsTracked terms (qs ++ Check s known.parts terms.rules.limits terms.rules.labels terms.rules.end terms.order terms.explain ∷ []) s story (Checking bytes ending begun)
+asked_check terms qs s bytes ending chunks story known begun ready said is =
     let readings = known.parts in
     let all_read = no_chunks_left readings [] story.chunks (chunks_asked s qs) is.0.all (ready ∙ is.2.chunk_count) in
     let one : checks_asked s (qs ++ Check s readings terms.rules.limits terms.rules.labels terms.rules.end terms.order terms.explain ∷ []) ≡
@@ -334,13 +363,15 @@ asked_check terms qs s bytes ending chunks story known ready is =
           (All-cons (λ a. a ≡ record { parts = map reading_of story.chunks; terms = to_the_end terms }) (record { parts = readings; terms = to_the_end terms }) []
           (ap (λ rs. record { parts = rs; terms = to_the_end terms }) all_read) (All-nil (λ a. a ≡ record { parts = map reading_of story.chunks; terms = to_the_end terms }))),
       record { ended = is.2.ended; enough = is.2.enough; byte_count = is.2.byte_count; chunk_count = refl },
+      said_of_all terms ending known story begun is.0.on all_read said,
     )
 
 -- it is known what is found of a whole source once all its chunks are read
-pub found_here : (terms : Terms) (qs : List Question) (s bytes : ℕ) (ending : Ending) (chunks : ℕ) (story : Story) (known : Known) (f : Finding) → length known.parts ≡ chunks →
+pub found_here : (terms : Terms) (qs : List Question) (s bytes : ℕ) (ending : Ending) (chunks : ℕ) (story : Story) (known : Known) (f : Finding) (begun : Option Begun) →
+    length known.parts ≡ chunks → IsSaidOf known.terms known.parts ending begun →
     IsTraceFinding known.parts known.terms f → IsTracked terms qs s story (Arrived bytes ending chunks known) →
-    IsTracked terms qs s story (Found (record { bytes = bytes; ending = ending; finding = f }))
-found_here terms qs s bytes ending chunks story known f ready found is =
+    IsTracked terms qs s story (Found (record { bytes = bytes; ending = ending; finding = f; begun = begun }))
+found_here terms qs s bytes ending chunks story known f begun ready said found is =
     let all_read = no_chunks_left known.parts [] story.chunks (chunks_asked s qs) is.0.all (ready ∙ is.2.chunk_count) in
     let has : HasArrived terms story bytes ending (length story.chunks) =
     record { ended = is.2.ended; enough = is.2.enough; byte_count = is.2.byte_count; chunk_count = refl } in
@@ -351,6 +382,7 @@ found_here terms qs s bytes ending chunks story known f ready found is =
       is.2.byte_count,
       trace_found ending terms story bytes known.parts (to_the_end known.terms) f same has
           (merely (found_to_the_end known.parts known.terms f found)),
+      source_begun ending terms story bytes (length story.chunks) begun has (said_of_all terms ending known story begun is.0.on all_read said),
     )
 
 -- a list with an element written at a place

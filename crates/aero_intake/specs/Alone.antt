@@ -9,29 +9,39 @@ use Rattle.aero_grammar.specs.Reading.{reading_of}
 use Rattle.aero_lines.specs.Cutting.{nothing_yet, blocks_from}
 use Rattle.aero_judge.specs.Finding.{IsFinding}
 use Rattle.aero_judge.specs.Judging.{Judging}
-use Rattle.aero_intake.specs.Held.{IsDecisive}
+use Rattle.aero_intake.specs.Begun.{AreBegun}
+use Rattle.aero_intake.specs.Held.{IsFinal}
+use Rattle.aero_intake.specs.Surveys.{IsSurveyOf}
+use Rattle.aero_intake.specs.declared.begun.Begun.{Begun}
 use Rattle.aero_intake.specs.declared.found.Found.{Found}
+use Rattle.aero_intake.specs.declared.survey.Survey.{Survey}
 use Rattle.aero_intake.specs.Intake.{Taking, IsTaken, HasCome}
 use Rattle.aero_intake.specs.Source.{Sight, WasRead}
 use Rattle.aero_intake.specs.Stories.{AreEnough, BeginAlike}
 
--- Bytes came from the reader and ended so, and this is the finding on them.
+-- Bytes came from the reader and ended so, this is the finding on them, and these labels begin a block.
 pub record IsFoundIn (terms : Terms) (before after : Sight) (found : Found) : Type 0 where
   pub bytes : List ℕ
   pub read : WasRead before after terms.rules.limits.bytes bytes found.ending
   pub count : found.bytes ≡ length bytes
   pub finding : ∥ IsFinding bytes found.ending terms found.finding ∥₁
+  pub begun : AreBegun terms bytes found.ending found.begun
 
-abbrev pub found_so : ℕ → Ending → Finding → Found
-found_so bytes ending finding = record { bytes = bytes; ending = ending; finding = finding }
+abbrev pub found_so : ℕ → Ending → Finding → Option Begun → Found
+found_so bytes ending finding begun = record { bytes = bytes; ending = ending; finding = finding; begun = begun }
+
+-- the survey is of the chunks that the judge was fed
+abbrev pub SurveysFed : Judging → Survey → Type 0
+SurveysFed judging survey = IsSurveyOf judging.terms.rules.labels.labels judging.parts survey
 
 -- no further chunk of the source counts
-abbrev pub HasEnough : Taking → Judging → Type 0
-HasEnough intake judging = (terms : Terms) → judging.terms ≡ to_the_end terms → (intake.passed ≡ true) ⊎ IsDecisive terms judging.parts
+abbrev pub HasEnough : Terms → Taking → Judging → Type 0
+HasEnough terms intake judging = (intake.passed ≡ true) ⊎ IsFinal terms judging.parts
 
--- The judge has these terms, there is room for one read more, and the source isn't too large by more than one byte.
-pub record MayRead (terms : Terms) (intake : Taking) (judging : Judging) : Type 0 where
+-- The judge has these terms, what it was fed is surveyed, there is room for one read more, and the source isn't too large by more than one byte.
+pub record MayRead (terms : Terms) (intake : Taking) (judging : Judging) (survey : Survey) : Type 0 where
   pub on : judging.terms ≡ to_the_end terms
+  pub surveyed : SurveysFed judging survey
   pub room : length intake.held < 2 ^ 18
   pub within : intake.count ≤ terms.rules.limits.bytes + 1
 

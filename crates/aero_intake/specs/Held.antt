@@ -1,7 +1,8 @@
 -- What is held of a source whose chunks are being read.
-use Rattle.std.specs.Prelude.{◌≡◌, ◌↔◌, ℕ, ◌-◌, ◌^◌, min, nat_lt, Bool, true, false, ◌||◌, is_some, List, [], ◌∷◌, ◌++◌, map, length, ⊤}
-use Rattle.std.specs.List.{sum_by}
+use Rattle.std.specs.Prelude.{◌≡◌, ◌↔◌, ◌⊎◌, ℕ, ◌-◌, ◌^◌, min, nat_lt, Bool, true, false, ◌||◌, is_some, List, [], ◌∷◌, ◌++◌, map, length, ⊤}
+use Rattle.std.specs.List.{list_all, sum_by}
 use Rattle.aero_grammar.specs.Reading.{Reading, reading_of, whole_reading, malformed_line}
+use Rattle.aero_intake.specs.Begun.{begins_in}
 use Rattle.aero_intake.specs.declared.held.Held.{Held}
 use Rattle.aero_intake.specs.declared.held.Held.TheVariants.{Kept, Live}
 use Rattle.aero_intake.specs.declared.held.Basis.{Basis}
@@ -47,6 +48,16 @@ IsDecisive terms parts = (more : List (List ℕ)) (f : Finding) → IsTraceFindi
 -- Whether what was read decides, whatever comes after it: a line of it is malformed, or there are more lines than may be.
 abbrev pub decides : Limits → List Reading → Bool
 decides limits parts = is_some (malformed_line limits.lines (whole_reading parts))
+
+-- no chunk is read for the labels alone
+abbrev pub NeedsNoLabel : Terms → List Reading → Type 0
+NeedsNoLabel terms parts = (terms.stop ≡ true) ⊎ ((decides terms.rules.limits parts ≡ true) ⊎ (list_all (begins_in parts) terms.rules.labels.labels ≡ true))
+
+-- Whatever chunks come after these parts, what is found is the same, and so is what is told of the labels: nothing is told, since the source is read no
+-- further than it must be, or since a line is malformed, or one too many, or a block begins with each label that is listed.
+pub record IsFinal (terms : Terms) (parts : List Reading) : Type 0 where
+  pub decisive : IsDecisive terms parts
+  pub labels : NeedsNoLabel terms parts
 
 -- what the chunks say
 abbrev pub parts_in : Held → List Reading

@@ -11,7 +11,9 @@ use Rattle.aero_pieces.specs.declared.answer.Value.{Value}
 use Rattle.aero_pieces.specs.Values.{IsValueOf}
 use Rattle.aero_judge.specs.Finding.{IsFinding}
 use Rattle.aero_model.specs.Terms.{Terms, on, ruled, to_the_end}
-use Rattle.aero_intake.specs.Held.{Known, IsDecisive}
+use Rattle.aero_intake.specs.Begun.{AreBegun}
+use Rattle.aero_intake.specs.Held.{Known, IsFinal}
+use Rattle.aero_intake.specs.Surveys.{IsSaidOf}
 use Rattle.aero_intake.specs.declared.track.Track.{Track}
 use Rattle.aero_intake.specs.declared.track.Track.TheVariants.{Arriving, Arrived, Checking, Found}
 use Rattle.aero_intake.specs.Tracks.{with_value}
@@ -46,14 +48,14 @@ abbrev pub checks_asked : ℕ → List Question → List Asked
 checks_asked s [] = []
 checks_asked s (q ∷ more) = own_check s q ++ checks_asked s more
 
--- Both begin with the same chunks, and these decide.
+-- Both begin with the same chunks, and these are final.
 pub record BeginAlike (terms : Terms) (asked all : List (List ℕ)) : Type 0 where
   pub front : List (List ℕ)
   pub rest : List (List ℕ)
   pub others : List (List ℕ)
   pub asked_are : asked ≡ front ++ rest
   pub all_are : all ≡ front ++ others
-  pub decided : IsDecisive terms (map reading_of front)
+  pub decided : IsFinal terms (map reading_of front)
 
 -- The chunks that were asked about are all, or have the same first ones, and those decide.
 abbrev pub AreEnough : Terms → List (List ℕ) → List (List ℕ) → Type 0
@@ -84,10 +86,12 @@ pub record AreSettled (terms : Terms) (story : Story) (qs : List Question) (s : 
 abbrev pub IsTracked : Terms → List Question → ℕ → Story → Track → Type 0
 IsTracked terms qs s story (Arriving known) = AreSettled terms story qs s known × (checks_asked s qs ≡ []) × (story.ending ≡ None)
 IsTracked terms qs s story (Arrived bytes ending chunks known) = AreSettled terms story qs s known × (checks_asked s qs ≡ []) × HasArrived terms story bytes ending chunks
-IsTracked terms qs s story (Checking bytes ending) =
+IsTracked terms qs s story (Checking bytes ending begun) =
     All (λ a. a ≡ record { parts = map reading_of story.chunks; terms = to_the_end terms }) (checks_asked s qs) × HasArrived terms story bytes ending (length story.chunks)
+    × IsSaidOf terms (map reading_of story.chunks) ending begun
 IsTracked terms qs s story (Found found) =
     (story.ending ≡ Some found.ending) × (found.bytes ≡ length (concat story.pieces)) × ∥ IsFinding (concat story.pieces) found.ending terms found.finding ∥₁
+    × AreBegun terms (concat story.pieces) found.ending found.begun
 
 abbrev pub AreTracked : Terms → List Question → (ℕ → Story) → List Track → Type 0
 AreTracked terms qs tale tracks = (s : ℕ) (t : Track) → slice_get tracks s ≡ Some t → IsTracked terms qs s (tale s) t

@@ -2,6 +2,9 @@
 use Rattle.std.specs.Prelude.{◌≡◌, ◌⊎◌, ◌||◌, ◌-◌, ◌^◌, ℕ, min, Bool, true, false, is_some, List, [], length, take, bytes_eq, slice_get, Option, Some, None, IfSome}
 use Rattle.std.specs.List.{list_all, list_any, position}
 use Rattle.aero_model.specs.declared.limits.Limits.{Limits}
+use Rattle.aero_model.specs.declared.verdict.Ending.{Ending}
+use Rattle.aero_model.specs.declared.verdict.Ending.TheVariants.{Whole}
+use Rattle.aero_model.specs.Terms.{Rules, Terms}
 use Rattle.aero_grammar.specs.Reading.{Reading, whole_reading}
 use Rattle.aero_intake.specs.Begun.{AreNoted, begins_in, noted_at}
 use Rattle.aero_intake.specs.Held.{decides}
@@ -42,3 +45,13 @@ MarksNames labels names old new =
 abbrev pub IsSaidBy : Limits → (labels : List (List ℕ)) → List Reading → Option Begun → Type 0
 IsSaidBy limits labels parts None = decides limits parts ≡ true
 IsSaidBy limits labels parts (Some begun) = (decides limits parts ≡ false) × AreNoted labels (begins_in parts) begun.flags.items
+
+-- the same of a whole source that may be read no further than it must be: then nothing
+abbrev pub IsSaidUnless : (stop : Bool) → Rules → List Reading → Option Begun → Type 0
+IsSaidUnless true rules parts begun = begun ≡ None
+IsSaidUnless false rules parts begun = IsSaidBy rules.limits rules.labels.labels parts begun
+
+-- the same of a source that ended so: nothing, unless it is whole
+abbrev pub IsSaidOf : Terms → List Reading → Ending → Option Begun → Type 0
+IsSaidOf terms parts Whole begun = IsSaidUnless terms.stop terms.rules parts begun
+IsSaidOf terms parts ending begun = begun ≡ None

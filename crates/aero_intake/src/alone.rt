@@ -1,7 +1,8 @@
 //! A source that one thread reads and judges.
 ghost use Rattle.std.specs.Prelude.{◌≡◌, ◌<◌, ◌≤◌, ◌^◌, ◌++◌, [], true, false, length, map, option_to_list, Option, Some, None, IfOk, IfSome, OnOk};
 ghost use Rattle.aero_grammar.specs.Reading.{reading_of};
-ghost use Rattle.aero_intake.specs.Alone.{IsFoundIn, HasEnough, MayRead, StandsAlone, IsJudgedOut, found_so};
+ghost use Rattle.aero_intake.specs.Alone.{IsFoundIn, HasEnough, MayRead, StandsAlone, IsJudgedOut, SurveysFed, found_so};
+ghost use Rattle.aero_intake.specs.Held.{NeedsNoLabel};
 ghost use Rattle.aero_intake.specs.Intake.{nothing_taken};
 ghost use Rattle.aero_intake.specs.PlanTerms.{terms_of};
 ghost use Rattle.aero_intake.specs.Source.{Sight, origin_in};
@@ -10,10 +11,13 @@ ghost use Rattle.aero_model.specs.Terms.{to_the_end};
 ghost use Rattle.aero_judge.specs.Finding.{IsTraceFinding};
 ghost use Rattle.aero_judge.specs.Judging.{judging_of, nothing_judged};
 
+use crate::begun::Begun;
 use crate::found::Found;
 use crate::intake::{Intake, Taken};
 use crate::plan::Plan;
 use crate::source::Followed;
+use crate::survey::Survey;
+use aero_grammar::parse_block;
 use aero_judge::Judge;
 use aero_lines::Block;
 use aero_model::{Ending, Except, Finding, Terms};
@@ -55,12 +59,14 @@ fn read_all<R: Followed, T: Wait>(
     is_given_up: &AtomicBool,
 ) -> Option<Ending>
     requires may { MayRead (terms_of plan.now) so_far.old.intake
-        (judging_of so_far.old.judge) }
+        (judging_of so_far.old.judge) so_far.old.survey }
     requires stands { StandsAlone (terms_of plan.now) (R.sight reader.old) (R.sight reader.old) None
         so_far.old.intake
         (judging_of so_far.old.judge) }
     ensures terms { IfSome result (λ ending.
         (judging_of so_far.new.judge).terms ≡ to_the_end (terms_of plan.now)) }
+    ensures surveyed { IfSome result (λ ending.
+        SurveysFed (judging_of so_far.new.judge) so_far.new.survey) }
     ensures stands { IfSome result (λ ending. StandsAlone (terms_of plan.now)
         (R.sight reader.old) (R.sight reader.new) (Some ending) so_far.new.intake
         (judging_of so_far.new.judge)) }
@@ -85,6 +91,7 @@ struct SoFar {
     alloc: Global,
     intake: Intake,
     judge: Judge,
+    survey: Survey,
 }
 
 impl SoFar {
@@ -93,11 +100,14 @@ impl SoFar {
         ensures intake { IfOk result (λ so_far. so_far.intake ≡ nothing_taken) }
         ensures judge { IfOk result (λ so_far. judging_of so_far.judge ≡
             nothing_judged (to_the_end (terms_of plan.now))) }
+        ensures surveyed { IfOk result (λ so_far.
+            SurveysFed (judging_of so_far.judge) so_far.survey) }
     {
         Ok(SoFar {
             alloc,
             intake: Intake::new(alloc, plan.piece)?,
             judge: Judge::new(alloc, &plan.terms)?,
+            survey: Survey::none(alloc),
         })
     }
 
@@ -110,9 +120,9 @@ impl SoFar {
         plan: &Plan,
     ) -> Result<Option<Ending>, AllocError>
         requires { MayRead (terms_of plan.now) self.old.intake
-            (judging_of self.old.judge) }
+            (judging_of self.old.judge) self.old.survey }
         ensures may { OnOk result (MayRead (terms_of plan.now) self.new.intake
-            (judging_of self.new.judge)) }
+            (judging_of self.new.judge) self.new.survey) }
         ensures stands { IfOk result (λ ended. (before : Sight) →
             StandsAlone (terms_of plan.now) before (R.sight reader.old) None self.old.intake
             (judging_of self.old.judge) →
@@ -139,26 +149,46 @@ impl SoFar {
 
     // Whether the source is read no further: the plan asks for that, no further chunk counts, and it isn't too large.
     fn stops_here(&self, plan: &Plan) -> bool
+        requires on { (judging_of self.now.judge).terms ≡ to_the_end (terms_of plan.now) }
+        requires surveyed { SurveysFed (judging_of self.now.judge) self.now.survey }
         ensures asked_for { result ≡ true → (terms_of plan.now).stop ≡ true }
-        ensures enough { result ≡ true → HasEnough self.now.intake (judging_of self.now.judge) }
+        ensures enough { result ≡ true → HasEnough (terms_of plan.now) self.now.intake
+            (judging_of self.now.judge) }
         ensures within { result ≡ true →
             self.now.intake.count ≤ (terms_of plan.now).rules.limits.bytes }
     {
-        plan.terms.stop() && self.intake.count() <= plan.terms.limits().bytes && self.has_enough()
+        plan.terms.stop()
+            && self.intake.count() <= plan.terms.limits().bytes
+            && self.has_enough(&plan.terms)
     }
 
     // Whether no further chunk counts.
-    fn has_enough(&self) -> bool
-        ensures enough { result ≡ true → HasEnough self.now.intake (judging_of self.now.judge) }
+    fn has_enough(&self, terms: &Terms) -> bool
+        requires on { (judging_of self.now.judge).terms ≡ to_the_end terms.now }
+        requires surveyed { SurveysFed (judging_of self.now.judge) self.now.survey }
+        ensures enough { result ≡ true → HasEnough terms.now self.now.intake
+            (judging_of self.now.judge) }
         ensures none_passed { result ≡ false → self.now.intake.passed ≡ false }
     {
-        self.intake.has_passed() || self.judge.is_certain()
+        self.intake.has_passed() || self.judge.is_certain() && self.needs_no_label(terms)
+    }
+
+    // Whether no further chunk counts for the labels: a block begins with each, or nothing is told of them.
+    fn needs_no_label(&self, terms: &Terms) -> bool
+        requires on { (judging_of self.now.judge).terms ≡ to_the_end terms.now }
+        requires surveyed { SurveysFed (judging_of self.now.judge) self.now.survey }
+        ensures { result ≡ true → NeedsNoLabel terms.now (judging_of self.now.judge).parts }
+    {
+        terms.stop() || self.survey.is_faulty(terms.limits()) || self.survey.has_all(terms.except())
     }
 
     // Judges what is held if it is long, or if the terms stop early.
     fn judge_if_due(&mut self, terms: &Terms) -> Result<(), AllocError>
-        requires { (judging_of self.old.judge).terms ≡ to_the_end terms.now }
+        requires on { (judging_of self.old.judge).terms ≡ to_the_end terms.now }
+        requires surveyed { SurveysFed (judging_of self.old.judge) self.old.survey }
         ensures terms { (judging_of self.new.judge).terms ≡ (judging_of self.old.judge).terms }
+        ensures surveyed { OnOk result
+            (SurveysFed (judging_of self.new.judge) self.new.survey) }
         ensures room { OnOk result (length self.new.intake.held < 2 ^ 18) }
         ensures count { OnOk result (self.new.intake.count ≡ self.old.intake.count) }
         ensures stands { OnOk result ((before now : Sight) (ended : Option AnyEnding) →
@@ -175,8 +205,11 @@ impl SoFar {
 
     // Cuts what is held and judges its chunk, or passes over it if no further chunk counts.
     fn judge_held(&mut self, terms: &Terms) -> Result<(), AllocError>
-        requires { (judging_of self.old.judge).terms ≡ to_the_end terms.now }
+        requires on { (judging_of self.old.judge).terms ≡ to_the_end terms.now }
+        requires surveyed { SurveysFed (judging_of self.old.judge) self.old.survey }
         ensures terms { (judging_of self.new.judge).terms ≡ (judging_of self.old.judge).terms }
+        ensures surveyed { OnOk result
+            (SurveysFed (judging_of self.new.judge) self.new.survey) }
         ensures none_held { OnOk result (self.new.intake.held ≡ []) }
         ensures count { OnOk result (self.new.intake.count ≡ self.old.intake.count) }
         ensures stands { OnOk result ((before now : Sight) (ended : Option AnyEnding) →
@@ -185,7 +218,7 @@ impl SoFar {
             StandsAlone terms.now before now ended self.new.intake
             (judging_of self.new.judge)) }
     {
-        if self.has_enough() {
+        if self.has_enough(terms) {
             self.intake.pass_over();
             return Ok(());
         }
@@ -196,64 +229,74 @@ impl SoFar {
     // Judges a chunk, if there is one.
     fn judge_chunk(&mut self, chunk: Option<Block>, except: &Except) -> Result<(), AllocError>
         requires labels { except.now ≡ (judging_of self.old.judge).terms.rules.labels }
+        requires surveyed { SurveysFed (judging_of self.old.judge) self.old.survey }
         requires short { IfSome chunk (λ bytes. length bytes ≤ 2 ^ 30) }
         ensures intake { self.new.intake ≡ self.old.intake }
         ensures terms { (judging_of self.new.judge).terms ≡ (judging_of self.old.judge).terms }
+        ensures surveyed { OnOk result
+            (SurveysFed (judging_of self.new.judge) self.new.survey) }
         ensures parts { OnOk result ((judging_of self.new.judge).parts ≡
             (judging_of self.old.judge).parts ++ map reading_of (option_to_list chunk)) }
     {
         let Some(chunk) = chunk else {
             return Ok(());
         };
-        self.judge.feed_text(self.alloc, chunk.bytes(), except)?;
+        let part = parse_block(self.alloc, chunk.bytes())?;
+        self.survey.add(self.alloc, except, &part)?;
+        self.judge.feed(&part, except)?;
         Ok(())
     }
 
     // Judges the last line of a whole source of which nothing is held, if no byte 10 ended it and it counts.
-    fn judge_last(&mut self, except: &Except) -> Result<(), AllocError>
-        requires { except.now ≡ (judging_of self.old.judge).terms.rules.labels }
+    fn judge_last(&mut self, terms: &Terms) -> Result<(), AllocError>
+        requires on { (judging_of self.old.judge).terms ≡ to_the_end terms.now }
+        requires surveyed { SurveysFed (judging_of self.old.judge) self.old.survey }
         ensures terms { (judging_of self.new.judge).terms ≡ (judging_of self.old.judge).terms }
-        ensures judged { OnOk result ((terms : _) (before now : Sight) →
-            (judging_of self.old.judge).terms ≡ to_the_end terms →
-            self.old.intake.held ≡ [] →
-            StandsAlone terms before now (Some Ending.Whole) self.old.intake
+        ensures surveyed { OnOk result
+            (SurveysFed (judging_of self.new.judge) self.new.survey) }
+        ensures judged { OnOk result ((before now : Sight) → self.old.intake.held ≡ [] →
+            StandsAlone terms.now before now (Some Ending.Whole) self.old.intake
             (judging_of self.old.judge) →
-            IsJudgedOut terms before now self.old.intake.count (judging_of self.new.judge)) }
+            IsJudgedOut terms.now before now self.old.intake.count (judging_of self.new.judge)) }
     {
-        if self.has_enough() {
+        if self.has_enough(terms) {
             return Ok(());
         }
         let last = self.intake.finish()?;
-        self.judge_chunk(last, except)
+        self.judge_chunk(last, terms.except())
     }
 
     // What is found of a source that has ended so. An `AllocError` says that memory was refused.
     fn finish(self, terms: &Terms, ending: Ending) -> Result<Found, AllocError>
-        requires { (judging_of self.judge).terms ≡ to_the_end terms.now }
+        requires on { (judging_of self.judge).terms ≡ to_the_end terms.now }
+        requires surveyed { SurveysFed (judging_of self.judge) self.survey }
         ensures { IfOk result (λ found. (before now : Sight) →
             StandsAlone terms.now before now (Some ending) self.intake (judging_of self.judge) →
             IsFoundIn terms.now before now found) }
     {
         let bytes = self.intake.count();
-        let finding = self.finding(terms, ending)?;
+        let (finding, begun) = self.finding(terms, ending)?;
         Ok(Found {
             bytes,
             ending,
             finding,
+            begun,
         })
     }
 
-    // The finding alone.
-    fn finding(self, terms: &Terms, ending: Ending) -> Result<Finding, AllocError>
-        requires { (judging_of self.judge).terms ≡ to_the_end terms.now }
-        ensures { IfOk result (λ finding. (before now : Sight) →
+    // The finding alone, and which labels begin a block.
+    fn finding(self, terms: &Terms, ending: Ending) -> Result<(Finding, Option<Begun>), AllocError>
+        requires on { (judging_of self.judge).terms ≡ to_the_end terms.now }
+        requires surveyed { SurveysFed (judging_of self.judge) self.survey }
+        ensures { IfOk result (λ said. (before now : Sight) →
             StandsAlone terms.now before now (Some ending) self.intake (judging_of self.judge) →
-            IsFoundIn terms.now before now (found_so self.intake.count ending finding)) }
+            IsFoundIn terms.now before now
+            (found_so self.intake.count ending said.0 said.1)) }
     {
         match ending {
-            Ending::Broken => Ok(Finding::Broken(self.intake.count())),
-            Ending::TooLarge => Ok(Finding::TooLarge),
-            Ending::Stopped => self.finding_as_far(),
+            Ending::Broken => Ok((Finding::Broken(self.intake.count()), None)),
+            Ending::TooLarge => Ok((Finding::TooLarge, None)),
+            Ending::Stopped => Ok((self.finding_as_far()?, None)),
             Ending::Whole => self.finding_of_all(terms),
         }
     }
@@ -266,16 +309,19 @@ impl SoFar {
         self.judge.finish()
     }
 
-    // The finding on a whole source.
-    fn finding_of_all(mut self, terms: &Terms) -> Result<Finding, AllocError>
-        requires { (judging_of self.judge).terms ≡ to_the_end terms.now }
-        ensures { IfOk result (λ finding. (before now : Sight) →
+    // The finding on a whole source, and which labels begin a block.
+    fn finding_of_all(mut self, terms: &Terms) -> Result<(Finding, Option<Begun>), AllocError>
+        requires on { (judging_of self.judge).terms ≡ to_the_end terms.now }
+        requires surveyed { SurveysFed (judging_of self.judge) self.survey }
+        ensures { IfOk result (λ said. (before now : Sight) →
             StandsAlone terms.now before now (Some Ending.Whole) self.intake
             (judging_of self.judge) → IsFoundIn terms.now before now
-            (found_so self.intake.count Ending.Whole finding)) }
+            (found_so self.intake.count Ending.Whole said.0 said.1)) }
     {
         self.judge_held(terms)?;
-        self.judge_last(terms.except())?;
-        self.judge.finish()
+        self.judge_last(terms)?;
+        let SoFar { judge, survey, .. } = self;
+        let begun = survey.into_begun(terms);
+        Ok((judge.finish()?, begun))
     }
 }

@@ -35,11 +35,14 @@
 //! - A whole source is judged by its parts themselves, or has the finding on them, on its own terms:
 //!   `Knowledge::into_basis`.
 //! - Where it is told that the first chunks of a source decide, what is found of it is the same whatever chunks come
-//!   after them. It is told exactly after a malformed line, after a line too many, and where the source is live and
-//!   the verdict of its `Live` is certain: `Knowledge::decide`, `told`, `faulty`, `decisive`; `is_decided`, `told`;
-//!   `Live::is_certain`.
-//! - What one thread finds of a source is the finding on the bytes that came from its reader, and they ended so:
-//!   `alone::judge_source`, `found`.
+//!   after them, and so is what is told of the labels. It is told exactly after a malformed line, after a line too many, and
+//!   where the source is live, the verdict of its `Live` is certain, and no label of the list is missing or none is to be told:
+//!   `Knowledge::decide`, `told`, `faulty`, `decisive`; `is_decided`, `told`; `Live::is_certain`.
+//! - A `Survey` is of exactly the chunks that were added: how many lines they have, whether one is malformed, and which labels of
+//!   the list begin a block, by the chunks' tables of labels: `Survey::none`, `add`, `is_faulty`, `has_all`, `into_begun`.
+//! - What one thread finds of a source is the finding on the bytes that came from its reader, and they ended so. Of each label
+//!   of the list it says whether a block begins with it, or nothing, if the source wasn't read to its end, has a malformed
+//!   line, or may be read no further than it must be: `alone::judge_source`, `found`.
 //! - However its bytes came, the chunks of a source have the verdicts, orders and events of telling cycles of its text.
 //!   After a malformed line, or one too many, later chunks don't count: `laws`.
 #![tactic(auto)]

@@ -5,11 +5,12 @@ ghost use Rattle.aero_grammar.specs.Reading.{Reading};
 ghost use Rattle.aero_grammar.specs.Tabled.{name_at};
 ghost use Rattle.aero_intake.specs.Begun.{AreNoted};
 ghost use Rattle.aero_intake.specs.Held.{decides};
-ghost use Rattle.aero_intake.specs.Surveys.{CountsLines, NotesLabels, IsSurveyOf, IsFirstWithout, IsSaidBy, MarksNames};
+ghost use Rattle.aero_intake.specs.Surveys.{CountsLines, NotesLabels, IsSurveyOf, IsFirstWithout, IsSaidOf, MarksNames};
+ghost use Rattle.aero_model.specs.declared.verdict.Ending.{Ending};
 
 use crate::begun::Begun;
 use aero_grammar::Parsed;
-use aero_model::{Except, Limits};
+use aero_model::{Except, Limits, Terms};
 use aero_names::NameList;
 use std::alloc::{AllocError, Global};
 
@@ -72,12 +73,14 @@ impl Survey {
         true
     }
 
-    /// Which labels begin a block of a whole source, or nothing, if a line is malformed, or one too many.
-    pub fn into_begun(self, limits: &Limits) -> Option<Begun>
-        ensures { (labels : List (List ℕ)) (parts : List Reading) → IsSurveyOf labels parts self →
-            IsSaidBy limits.now labels parts result }
+    /// Which labels begin a block of a whole source that is judged on these terms. Nothing is said if a line is malformed, or one
+    /// too many, and nothing where sources are read no further than they must be.
+    pub fn into_begun(self, terms: &Terms) -> Option<Begun>
+        ensures { (parts : List Reading) →
+            IsSurveyOf terms.now.rules.labels.labels parts self →
+            IsSaidOf terms.now parts Ending.Whole result }
     {
-        if self.is_faulty(limits) {
+        if terms.stop() || self.is_faulty(terms.limits()) {
             return None;
         }
         Some(self.begun)

@@ -1,11 +1,16 @@
 //! What is known of a source while it is worked on.
 ghost use Rattle.std.specs.Prelude.{◌≡◌, ◌||◌, length, true, OnOk, IfOk, ◌↔◌, IsTrue};
-ghost use Rattle.aero_intake.specs.Held.{decides, nothing_read, with_next, IsDecisive, IsBasis};
-ghost use Rattle.aero_intake.specs.Tracks.{with_part, with_finding, with_value, with_arrival, certain_of, is_faulty, is_told, IsDecided, IsReady};
-ghost use Rattle.aero_intake.specs.Tracks.{TakesKnown, GivesParts};
+ghost use Rattle.std.specs.List.{list_all};
+ghost use Rattle.aero_intake.specs.Begun.{begins_in};
+ghost use Rattle.aero_intake.specs.Held.{decides, nothing_read, with_next, IsBasis, IsFinal};
+ghost use Rattle.aero_intake.specs.Surveys.{IsSaidOf};
+ghost use Rattle.aero_intake.specs.Tracks.{with_part, with_finding, with_value, with_arrival, certain_of, is_faulty, is_told, is_told_of, IsDecided, IsReady};
+ghost use Rattle.aero_intake.specs.Tracks.{TakesArrival, GivesParts};
 
+use crate::begun::Begun;
 use crate::found::Found;
 use crate::held::{Basis, Held, add_to, basis_of, held_count, is_certain, nothing_held};
+use crate::survey::Survey;
 use aero_grammar::Parsed;
 use aero_model::{Ending, Finding, Terms};
 use aero_pieces::{Parts, Value};
@@ -18,9 +23,7 @@ use std::mem;
 pub struct Knowledge {
     terms: Terms,
     held: Held,
-    // How many lines they have, up to the first fault, but no more than 2^32 - 1.
-    lines: u32,
-    has_fault: bool,
+    survey: Survey,
 }
 
 impl Model for Knowledge {
@@ -32,14 +35,12 @@ impl Model for Knowledge {
 
     ghost view = { λ r. record { terms = r.terms; parts = parts_in r.held; live = live_in r.held; certain = certain_in r.held } };
 
-    ghost use Rattle.std.specs.Prelude.{◌≡◌, ◌-◌, ◌^◌, min, is_some};
-    ghost use Rattle.aero_grammar.specs.Reading.{whole_reading};
+    ghost use Rattle.aero_intake.specs.Surveys.{IsSurveyOf};
 
     ghost invariant = { λ r. record {
       fits : FitsTerms r.terms r.held;
       counted : CountsEvents r.held;
-      lines : r.lines ≡ min (whole_reading (parts_in r.held)).lines (2 ^ 32 - 1);
-      fault : r.has_fault ≡ is_some (whole_reading (parts_in r.held)).fault;
+      survey : IsSurveyOf r.terms.rules.labels.labels (parts_in r.held) r.survey;
     } };
 }
 
@@ -51,8 +52,7 @@ impl Knowledge {
         Knowledge {
             terms,
             held: nothing_held(alloc),
-            lines: 0,
-            has_fault: false,
+            survey: Survey::none(alloc),
         }
     }
 
@@ -61,37 +61,41 @@ impl Knowledge {
     pub fn add(&mut self, alloc: Global, part: Parsed, most: u64) -> Result<(), AllocError>
         ensures { OnOk result (self.new ≡ with_next most self.new.certain self.old part) }
     {
-        let more_lines = part.lines;
-        let is_faulty = part.fault.is_some();
-        if let Err(refused) = add_to(&mut self.held, alloc, part, &self.terms, most) {
+        let added = match self.survey.add(alloc, self.terms.except(), &part) {
+            Ok(()) => add_to(&mut self.held, alloc, part, &self.terms, most),
+            Err(refused) => Err(refused),
+        };
+        if added.is_err() {
             self.held = nothing_held(alloc);
-            self.lines = 0;
-            self.has_fault = false;
-            return Err(refused);
+            self.survey = Survey::none(alloc);
         }
-        if !self.has_fault {
-            self.lines = self.lines.saturating_add(more_lines);
-            self.has_fault = is_faulty;
-        }
-        Ok(())
+        added
     }
 
     /// Whether it is known that they decide, whatever chunks come after them: a line of them is malformed, or they
-    /// have more lines than may be, or they are judged as they come and the verdict is certain.
+    /// have more lines than may be, or they are judged as they come, the verdict is certain, and a block begins with each
+    /// label that is listed, or the source is read no further than it must be.
     pub fn decide(&self) -> bool
-        ensures told { result ≡ decides self.now.terms.rules.limits self.now.parts ||
-            self.now.certain }
+        ensures told { result ≡ is_told_of self.now }
         ensures faulty { decides self.now.terms.rules.limits self.now.parts ≡ true → IsTrue result }
-        ensures decisive { IsTrue result → IsDecisive self.now.terms self.now.parts }
+        ensures decisive { IsTrue result → IsFinal self.now.terms self.now.parts }
     {
-        self.have_fault() || is_certain(&self.held)
+        self.have_fault() || is_certain(&self.held) && self.need_no_label()
     }
 
     // Whether a line of them is malformed, or they have more lines than may be.
     fn have_fault(&self) -> bool
         ensures { result ≡ decides self.now.terms.rules.limits self.now.parts }
     {
-        self.has_fault || self.lines > self.terms.limits().lines
+        self.survey.is_faulty(self.terms.limits())
+    }
+
+    // Whether a block begins with each label that is listed, or nothing is told of the labels.
+    fn need_no_label(&self) -> bool
+        ensures { result ≡ (self.now.terms.stop ||
+            list_all (begins_in self.now.parts) self.now.terms.rules.labels.labels) }
+    {
+        self.terms.stop() || self.survey.has_all(self.terms.except())
     }
 
     pub fn len(&self) -> u64
@@ -100,12 +104,22 @@ impl Knowledge {
         held_count(&self.held)
     }
 
-    /// What a source that has come is judged by. An `AllocError` says that memory was refused.
-    pub fn into_basis(self) -> Result<Basis, AllocError>
-        ensures { IfOk result (IsBasis self.parts self.terms) }
+    /// What a source that has come, and ended so, is judged by, and which listed labels begin a block of it: nothing, where
+    /// sources are read no further than they must be. An `AllocError` says that memory was refused.
+    pub fn into_basis(self, ending: Ending) -> Result<(Basis, Option<Begun>), AllocError>
+        ensures basis { IfOk result (λ given. IsBasis self.parts self.terms given.0) }
+        ensures begun { IfOk result (λ given. IsSaidOf self.terms self.parts ending given.1) }
     {
-        let Knowledge { terms, held, .. } = self;
-        basis_of(held, &terms)
+        let Knowledge {
+            terms,
+            held,
+            survey,
+        } = self;
+        let begun = match ending {
+            Ending::Whole => survey.into_begun(&terms),
+            Ending::Broken | Ending::TooLarge | Ending::Stopped => None,
+        };
+        Ok((basis_of(held, &terms)?, begun))
     }
 }
 
@@ -121,10 +135,12 @@ pub enum Track {
         chunks: u64,
         known: Knowledge,
     },
-    /// The chunks that were asked about were read, and the verdict is asked for. So many bytes came, and they ended so.
+    /// The chunks that were asked about were read, and the verdict is asked for. So many bytes came, they ended so, and these
+    /// labels begin a block.
     Checking {
         bytes: u64,
         ending: Ending,
+        begun: Option<Begun>,
     },
     /// This was found.
     Found(Found),
@@ -174,15 +190,29 @@ fn take_part(track: &mut Track, alloc: Global, part: Parsed, most: u64) -> Resul
 fn take_finding(track: &mut Track, finding: Finding)
     ensures { track.new ≡ with_finding track.old finding }
 {
-    let (bytes, ending) = match track {
-        Track::Checking { bytes, ending } => (*bytes, *ending),
+    let (bytes, ending, begun) = match track {
+        Track::Checking {
+            bytes,
+            ending,
+            begun,
+        } => (*bytes, *ending, begun.take()),
         _ => return,
     };
     *track = Track::Found(Found {
         bytes,
         ending,
         finding,
+        begun,
     });
+}
+
+// A track that stands only while another one changes.
+fn nothing_known() -> Track {
+    Track::Checking {
+        bytes: 0,
+        ending: Ending::Broken,
+        begun: None,
+    }
 }
 
 /// Notes that a source has come, whole or as far as it is read: that so many bytes came, that they ended so, and that so
@@ -190,8 +220,7 @@ fn take_finding(track: &mut Track, finding: Finding)
 pub fn arrive(track: &mut Track, bytes: u64, ending: Ending, chunks: u64)
     ensures { track.new ≡ with_arrival track.old bytes ending chunks }
 {
-    let old = mem::replace(track, Track::Checking { bytes, ending });
-    *track = match old {
+    *track = match mem::replace(track, nothing_known()) {
         Track::Arriving(known) => Track::Arrived {
             bytes,
             ending,
@@ -232,27 +261,64 @@ pub fn is_decided(track: &Track) -> bool
 pub fn take_parts(track: &mut Track) -> Result<Option<Parts>, AllocError>
     ensures { IfOk result (GivesParts track.old track.new) }
 {
-    let Some(known) = take_known(track) else {
+    let Some(
+        Arrival {
+            bytes,
+            ending,
+            known,
+        },
+    ) = take_arrival(track)
+    else {
         return Ok(None);
     };
-    match known.into_basis()? {
-        Basis::ByParts(parts) => Ok(Some(parts)),
+    let (basis, begun) = known.into_basis(ending)?;
+    match basis {
+        Basis::ByParts(parts) => {
+            *track = Track::Checking {
+                bytes,
+                ending,
+                begun,
+            };
+            Ok(Some(parts))
+        }
         Basis::Already(finding) => {
-            take_finding(track, finding);
+            *track = Track::Found(Found {
+                bytes,
+                ending,
+                finding,
+                begun,
+            });
             Ok(None)
         }
     }
 }
 
-fn take_known(track: &mut Track) -> Option<Knowledge>
-    ensures { TakesKnown track.old track.new result }
+// A source that has come: how many bytes came, how they ended, and what its chunks say.
+#[derive(Drop)]
+struct Arrival {
+    bytes: u64,
+    ending: Ending,
+    known: Knowledge,
+}
+
+// Takes what is known of a source that has come. Any other track stays as it is.
+fn take_arrival(track: &mut Track) -> Option<Arrival>
+    ensures { TakesArrival track.old track.new result }
 {
-    let (bytes, ending) = match track {
-        Track::Arrived { bytes, ending, .. } => (*bytes, *ending),
-        _ => return None,
-    };
-    match mem::replace(track, Track::Checking { bytes, ending }) {
-        Track::Arrived { known, .. } => Some(known),
-        _ => None,
+    match mem::replace(track, nothing_known()) {
+        Track::Arrived {
+            bytes,
+            ending,
+            known,
+            ..
+        } => Some(Arrival {
+            bytes,
+            ending,
+            known,
+        }),
+        other => {
+            *track = other;
+            None
+        }
     }
 }

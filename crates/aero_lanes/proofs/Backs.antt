@@ -9,6 +9,7 @@ use Rattle.aero_telling.specs.declared.cause.Cause.{Cause}
 use Rattle.aero_telling.specs.declared.cause.Cause.TheVariants.{Memory, Write}
 use Rattle.aero_telling.specs.declared.told.Told.{Told}
 use Rattle.aero_telling.specs.Founds.{Found, IsFoundAt, IsWritten, Took, WasTold, lines_of_all, no_text, sighted, whose}
+use Rattle.aero_telling.specs.Labels.{AreLabelsOf}
 use Rattle.aero_telling.proofs.Tellings.{slice_get_some, the_some}
 use Rattle.aero_intake.specs.Source.{Sight}
 use Rattle.aero_intake.specs.declared.source.SourceOf.{SourceOf}
@@ -92,6 +93,15 @@ module _ {R : Type 0} (known : R → Sight) (terms : Terms) (form : Form) (origi
     notable = st.notables;
     counted = st.counts;
     written = written_of st.founds before after cause st.written;
+  }
+
+  pub were_labels : (before after : Seen) (a : Told) (cause : Option Cause) → StopsSo known terms form origin before after all a cause →
+      AreLabelsOf terms (map (sighted known) origin) (map (sighted known) back) a.endings.items a.begun
+  were_labels before after a cause st = record {
+    founds = st.founds;
+    found = λ place f at. found_at place f (st.found place f at);
+    ended = st.endings;
+    begun_are = st.begun;
   }
 
 -- Taking the sources back, one after the other

@@ -10,6 +10,7 @@ use Rattle.aero_model.specs.contracts.verdict.Cycle as Cycle
 use Rattle.aero_model.specs.contracts.verdict.CycleStep as CycleStep
 use Rattle.aero_model.specs.contracts.verdict.Ending as Ending
 use Rattle.aero_model.specs.contracts.verdict.Finding as Finding
+use Rattle.aero_intake.specs.contracts.begun.Begun as Begun
 use Rattle.aero_intake.specs.contracts.found.Found as Found
 use Rattle.aero_model.specs.contracts.verdict.Step as Step
 use Rattle.aero_model.specs.contracts.verdict.Verdict as Verdict
@@ -34,8 +35,11 @@ ending_send = search (sendable, crosses) depth 40
 finding_send : IsSend (Enum (enums.shape Finding.the_type))
 finding_send = enum_send (enums.shape Finding.the_type) (search (sendable, crosses, verdict_send, step_send, cycle_send) depth 60 fits 6000)
 
+begun_send : IsSend (Struct (structs.shape Begun.the_type))
+begun_send = search (sendable, crosses) depth 40
+
 pub found_send : IsSend (Struct (structs.shape Found.the_type))
-found_send = struct_send (structs.shape Found.the_type) (search (sendable, crosses, ending_send, finding_send) depth 40)
+found_send = struct_send (structs.shape Found.the_type) (search (sendable, crosses, ending_send, finding_send, begun_send) depth 40)
 
 source_send : (R : RattleType) → IsSend R → IsSend (Struct (structs.shape (SourceOf.the_type R)))
 source_send R send = struct_send (structs.shape (SourceOf.the_type R)) (search (sendable, crosses) depth 40, (search (send, sendable), (search (sendable, crosses) depth 40, tt)))

@@ -5,7 +5,8 @@ use Rattle.std.specs.Prelude.{IfOk, IfErr, IfSome, OnOk, vec_len}
 use Rattle.std.proofs.KnownBytes.{Appends-nil, Appends-trans}
 use Rattle.std.proofs.lemmas.List.{length-map, map-append, length_push}
 use Rattle.std.proofs.lemmas.Option.{slice_get_within}
-use Rattle.aero_intake.specs.declared.found.Found as intake
+use Rattle.aero_intake.specs.Begun.{AreBegun}
+use Rattle.aero_intake.specs.declared.found.Found as model
 use Rattle.aero_model.specs.CallCounts.{Seen}
 use Rattle.aero_model.specs.Verdicts.{counted, total}
 use Rattle.aero_report.specs.declared.form.Form.{Form}
@@ -17,7 +18,7 @@ use Rattle.aero_intake.specs.Alone.{IsFoundIn}
 use Rattle.aero_telling.specs.Notables.{notable_of}
 use Rattle.aero_telling.specs.Founds.{Found, Took, ending_of, notable, lines_of_all}
 use Rattle.aero_telling.specs.Telling.{WasCut, TellsFound, IsOneMore}
-use Rattle.aero_telling.proofs.Tellings.{get_push, lines_more, counts_more, took_more, took_nothing, slice_get_some}
+use Rattle.aero_telling.proofs.Tellings.{begun_more, flags_more, none_begun, get_push, lines_more, counts_more, took_more, took_nothing, slice_get_some}
 use Rattle.aero_intake.specs.Source.{Sight}
 use Rattle.aero_intake.specs.declared.source.SourceOf.{SourceOf}
 use Rattle.aero_lanes.specs.declared.lane.Ended.{Ended}
@@ -30,7 +31,7 @@ use Rattle.aero_model.specs.Terms.{Terms}
 
 -- before anything is told
 pub begun_so : {R : Type 0} (known : R → Sight) (terms : Terms) (form : Form) (origin : List (SourceOf R)) (before : Seen) (seats : List (Seat R)) (a : Told) →
-    AreSeated known terms origin seats → (sources : ℕ) → IsBegunSo sources a → StandsSo known terms form origin before before seats a
+    AreSeated known terms origin seats → (sources : ℕ) → IsBegunSo terms.rules.labels.labels sources a → StandsSo known terms form origin before before seats a
 begun_so known terms form origin before seats a seated sources is = record {
   seated = seated;
   founds = [];
@@ -40,11 +41,13 @@ begun_so known terms form origin before seats a seated sources is = record {
     endings = is.endings;
     notables = is.notables;
     counts = is.counts;
+    begun = none_begun terms a.begun is.begun;
+    flags = is.flags;
   };
 }
 
-pub begun_numbers : (sources : ℕ) (a : Told) → sources ≤ 65536 → IsBegunSo sources a → HasNumbersOf sources a
-begun_numbers sources a few is =
+pub begun_numbers : (labels : List (List ℕ)) (sources : ℕ) (a : Told) → sources ≤ 65536 → IsBegunSo labels sources a → HasNumbersOf sources a
+begun_numbers labels sources a few is =
     let none : vec_len a.endings ≡ 0 = a.endings.ok.0 ∙ ap length is.endings in
     record {
       few = omega (arith, none);
@@ -69,25 +72,29 @@ stands_on known terms form origin before mid old new a on st = record {
     endings = st.told_so.endings;
     notables = st.told_so.notables;
     counts = st.told_so.counts;
+    begun = st.told_so.begun;
+    flags = st.told_so.flags;
   };
 }
 
 -- the next source, whose lane has ended and has found this
-found_next : {R : Type 0} (known : R → Sight) (terms : Terms) (origin : List (SourceOf R)) (all : List (Seat R)) (place : ℕ) (end : Ended R) (j : intake.Found) →
+found_next : {R : Type 0} (known : R → Sight) (terms : Terms) (origin : List (SourceOf R)) (all : List (Seat R)) (place : ℕ) (end : Ended R) (j : model.Found) →
     AreSeated known terms origin all → slice_get all place ≡ Some (seats.Done end) → end.found ≡ Some j →
     (f : Found) × IsFoundBy known terms origin all place f × (ending_of f ≡ (j.bytes, j.ending)) × (f.finding ≡ j.finding) × (f.name ≡ end.source.name.items)
+    × AreBegun terms f.bytes f.ending j.begun
 found_next {R} known terms origin all place end j seated at found_is =
     let within = slice_get_within all place (seats.Done end) at in
     let first = slice_get_some origin place (omega (arith, within, seated.count)) in
     let before = first.0 in
     let fits : IsEndOf known terms before end = seated.fits place before (seats.Done end) first.1 at in
     let is : IsFoundIn terms (known before.reader) (known end.source.reader) j =
-    subst (λ (o : Option intake.Found). IfSome o (λ x. IsFoundIn terms (known before.reader) (known end.source.reader) x)) found_is fits.found in (
+    subst (λ (o : Option model.Found). IfSome o (λ x. IsFoundIn terms (known before.reader) (known end.source.reader) x)) found_is fits.found in (
       record { name = before.name.items; bytes = is.bytes; ending = j.ending; finding = j.finding },
       record { before = before; end = end; was = first.1; is = at; found_of = record { name = refl; read = is.read; finding = is.finding } },
       ap (λ n. (n, j.ending)) (sym is.count),
       refl,
       sym (ap (λ w. w.0) fits.whose_is),
+      is.begun,
     )
 
 module _ {R : Type 0} (known : R → Sight) (terms : Terms) (form : Form) (all : List (Seat R)) (mid after : Seen) (a b : Told) where
@@ -101,7 +108,7 @@ module _ {R : Type 0} (known : R → Sight) (terms : Terms) (form : Form) (all :
   Stops cause = (origin : List (SourceOf R)) (before : Seen) → StandsSo known terms form origin before mid all a → StopsSo known terms form origin before after all b (Some cause)
 
   -- one more source is told
-  told_more : (end : Ended R) (j : intake.Found) → slice_get all (vec_len a.endings) ≡ Some (seats.Done end) →
+  told_more : (end : Ended R) (j : model.Found) → slice_get all (vec_len a.endings) ≡ Some (seats.Done end) →
       end.found ≡ Some j → Took mid after (source_line_in form end.source.name.items j.finding) → IsOneMore a b j → Keeps
   told_more end j at found_is took more origin before st =
       let t = st.told_so in
@@ -123,6 +130,8 @@ module _ {R : Type 0} (known : R → Sight) (terms : Terms) (form : Form) (all :
           endings = more.endings ∙ (ap₂ (λ es e. es ++ e ∷ []) t.endings (sym next.2) ∙ sym (map-append ending_of st.founds (f ∷ [])));
           notables = more.notables ∙ (ap₂ (λ fs x. fs ++ notable_of x ∷ []) t.notables (sym next.3) ∙ sym (map-append notable st.founds (f ∷ [])));
           counts = more.counts ∙ (ap₂ counted t.counts (sym next.3) ∙ sym (counts_more st.founds f));
+          begun = begun_more terms st.founds f a.begun j.begun b.begun t.flags t.begun next.5 more.begun;
+          flags = flags_more terms.rules.labels.labels a.begun j.begun b.begun t.flags more.begun;
         };
       }
 
@@ -138,6 +147,7 @@ module _ {R : Type 0} (known : R → Sight) (terms : Terms) (form : Form) (all :
         endings = t.endings;
         notables = t.notables;
         counts = t.counts;
+        begun = t.begun;
         written = took_nothing before mid after (lines_of_all form st.founds) t.took took;
       })
 
@@ -153,7 +163,7 @@ module _ {R : Type 0} (known : R → Sight) (terms : Terms) (form : Form) (all :
   }
 
   -- a write of the next line failed
-  line_stops : (end : Ended R) (j : intake.Found) → slice_get all (vec_len a.endings) ≡ Some (seats.Done end) →
+  line_stops : (end : Ended R) (j : model.Found) → slice_get all (vec_len a.endings) ≡ Some (seats.Done end) →
       end.found ≡ Some j → WasCut mid after (source_line_in form end.source.name.items j.finding) → b ≡ a → Stops Write
   line_stops end j at found_is cut same origin before st =
       let t = st.told_so in
@@ -169,6 +179,7 @@ module _ {R : Type 0} (known : R → Sight) (terms : Terms) (form : Form) (all :
         endings = t.endings;
         notables = t.notables;
         counts = t.counts;
+        begun = t.begun;
         written = cut_so origin before st.founds (source_line_in form end.source.name.items j.finding)
             (f, subst (λ n. IsFoundBy known terms origin all n f) same_place next.1, line) t.took cut;
       })
@@ -181,14 +192,14 @@ module _ {R : Type 0} (known : R → Sight) (terms : Terms) (form : Form) (all :
   not_told : (after ≡ mid) × (b ≡ a) → Tellings (Ok false)
   not_told same = record { stands = λ e. cc (e); unchanged = λ e. same; stopped = tt }
 
-  telling_found : (end : Ended R) (j : intake.Found) (r : Result Bool Cause) → slice_get all (vec_len a.endings) ≡ Some (seats.Done end) → end.found ≡ Some j →
+  telling_found : (end : Ended R) (j : model.Found) (r : Result Bool Cause) → slice_get all (vec_len a.endings) ≡ Some (seats.Done end) → end.found ≡ Some j →
       TellsFound form end.source.name.items j mid after a b r → Tellings r
   telling_found end j (Ok true) at found_is tells = record { stands = λ e. told_more end j at found_is tells.0 tells.1; unchanged = λ e. cc (e); stopped = tt }
   telling_found end j (Ok false) at found_is tells = absurd tells
   telling_found end j (Err Memory) at found_is tells = record { stands = tt; unchanged = tt; stopped = memory_stops tells.0 tells.1 }
   telling_found end j (Err Write) at found_is tells = record { stands = tt; unchanged = tt; stopped = line_stops end j at found_is tells.0 tells.1 }
 
-  telling_end : (end : Ended R) (found : Option intake.Found) (r : Result Bool Cause) → slice_get all (vec_len a.endings) ≡ Some (seats.Done end) → end.found ≡ found →
+  telling_end : (end : Ended R) (found : Option model.Found) (r : Result Bool Cause) → slice_get all (vec_len a.endings) ≡ Some (seats.Done end) → end.found ≡ found →
       TellsEnd form end.source.name.items found mid after a b r → Tellings r
   telling_end end (Some j) r at found_is tells = telling_found end j r at found_is tells
   telling_end end None (Ok told) at found_is tells = absurd tells
@@ -226,6 +237,7 @@ all_so known terms form origin all before after a whole st = record {
   endings = st.told_so.endings;
   notables = st.told_so.notables;
   counts = st.told_so.counts;
+  begun = st.told_so.begun;
   written = (sym (place_is known terms form all after after a a st.founds st.told_so.endings) ∙ (whole ∙ st.seated.count), st.told_so.took);
 }
 
@@ -234,7 +246,7 @@ module _ (R : Type 0) (form : Form) (sources : ℕ) (mid after : Seen) (a b : To
   same_numbers : (after ≡ mid) × (b ≡ a) → HasNumbersOf sources b
   same_numbers same = subst (λ (x : Told). HasNumbersOf sources x) (sym same.1) numbers
 
-  more_numbers : (j : intake.Found) → vec_len a.endings < sources → IsOneMore a b j → HasNumbersOf sources b
+  more_numbers : (j : model.Found) → vec_len a.endings < sources → IsOneMore a b j → HasNumbersOf sources b
   more_numbers j below more =
       let len : vec_len b.endings ≡ vec_len a.endings + 1 = b.endings.ok.0 ∙ (ap length more.endings ∙ (length_push a.endings.items (j.bytes, j.ending) ∙ ap (λ n. n + 1) (sym a.endings.ok.0))) in
       let lines : vec_len b.notables ≡ vec_len a.notables + 1 = b.notables.ok.0 ∙ (ap length more.notables ∙ (length_push a.notables.items (notable_of j.finding) ∙ ap (λ n. n + 1) (sym a.notables.ok.0))) in
@@ -247,13 +259,13 @@ module _ (R : Type 0) (form : Form) (sources : ℕ) (mid after : Seen) (a b : To
         notables_room = more.notables_room ∙ numbers.notables_room;
       }
 
-  numbers_found : (name : List ℕ) (j : intake.Found) (r : Result Bool Cause) → vec_len a.endings < sources →
+  numbers_found : (name : List ℕ) (j : model.Found) (r : Result Bool Cause) → vec_len a.endings < sources →
       TellsFound form name j mid after a b r → OnOk r (HasNumbersOf sources b)
   numbers_found name j (Ok true) below tells = more_numbers j below tells.1
   numbers_found name j (Ok false) below tells = absurd tells
   numbers_found name j (Err cause) below tells = tt
 
-  numbers_end : (name : List ℕ) (found : Option intake.Found) (r : Result Bool Cause) → vec_len a.endings < sources → TellsEnd form name found mid after a b r → OnOk r (HasNumbersOf sources b)
+  numbers_end : (name : List ℕ) (found : Option model.Found) (r : Result Bool Cause) → vec_len a.endings < sources → TellsEnd form name found mid after a b r → OnOk r (HasNumbersOf sources b)
   numbers_end name (Some j) r below tells = numbers_found name j r below tells
   numbers_end name None (Ok told) below tells = absurd tells
   numbers_end name None (Err cause) below tells = tt

@@ -1,8 +1,9 @@
 -- What the lanes come to.
-use Rattle.std.specs.Prelude.{◌≡◌, ◌≤◌, List, [], map, vec_len, vec_capacity}
+use Rattle.std.specs.Prelude.{◌≡◌, ◌≤◌, ℕ, List, [], map, vec_len, vec_capacity}
 use Rattle.aero_model.specs.CallCounts.{Seen}
 use Rattle.aero_report.specs.declared.form.Form.{Form}
 use Rattle.aero_telling.specs.Founds.{WasTold, sighted}
+use Rattle.aero_telling.specs.Labels.{AreLabelsOf}
 use Rattle.aero_intake.specs.Source.{Sight}
 use Rattle.aero_intake.specs.declared.source.SourceOf.{SourceOf}
 use Rattle.aero_lanes.specs.declared.room.Room.{Room}
@@ -12,9 +13,9 @@ use Rattle.aero_lanes.specs.Seats.{AreSeated}
 use Rattle.aero_lanes.specs.Tellings.{IsBegunSo}
 use Rattle.aero_model.specs.Terms.{Terms}
 
--- Nothing is told yet of the sources on these seats, and there is room for them to come back.
-pub record IsReady {R : Type 0} (all : Room R) : Type 0 where
-  pub begun : IsBegunSo (vec_len all.seats) all.told
+-- Nothing is told yet of the sources on these seats, nor of these labels, and there is room for them to come back.
+pub record IsReady {R : Type 0} (labels : List (List ℕ)) (all : Room R) : Type 0 where
+  pub begun : IsBegunSo labels (vec_len all.seats) all.told
   pub few : vec_len all.seats ≤ 65536
   pub none : all.back.items ≡ []
   pub room : vec_capacity all.back ≡ vec_len all.seats
@@ -24,3 +25,5 @@ pub record HasJudged {R : Type 0} (known : R → Sight) (terms : Terms) (form : 
     (back : List (SourceOf R)) : Type 0 where
   pub told : (origin : List (SourceOf R)) → AreSeated known terms origin seats →
       WasTold terms form (map (sighted known) origin) (map (sighted known) back) before after report.told.endings.items report.told.notables.items report.told.counts report.cause
+  pub labels : (origin : List (SourceOf R)) → AreSeated known terms origin seats →
+      AreLabelsOf terms (map (sighted known) origin) (map (sighted known) back) report.told.endings.items report.told.begun

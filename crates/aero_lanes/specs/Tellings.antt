@@ -2,7 +2,7 @@
 use Rattle.std.specs.Prelude.{◌≡◌, ℕ, ◌+◌, ◌<◌, ◌≤◌, Bool, true, false, List, [], ◌++◌, map, length, take, slice_get, vec_len, vec_capacity, Option, Some, None}
 use Rattle.std.specs.Prelude.{Result, Ok, Err}
 use Rattle.std.specs.Io.KnownBytes.{Appends}
-use Rattle.aero_intake.specs.declared.found.Found as intake
+use Rattle.aero_intake.specs.declared.found.Found as model
 use Rattle.aero_model.specs.CallCounts.{Seen}
 use Rattle.aero_report.specs.declared.form.Form.{Form}
 use Rattle.aero_model.specs.Verdicts.{no_counts, total}
@@ -11,6 +11,7 @@ use Rattle.aero_telling.specs.declared.cause.Cause.{Cause}
 use Rattle.aero_telling.specs.declared.cause.Cause.TheVariants.{Memory, Write}
 use Rattle.aero_telling.specs.declared.told.Told.{Told}
 use Rattle.aero_telling.specs.Founds.{Found, Took, ending_of, notable, lines_of_all, counts_of_all}
+use Rattle.aero_telling.specs.Labels.{AreBegunAmong, HasFlagsFor, HasNoneBegun}
 use Rattle.aero_telling.specs.Telling.{TellsFound}
 use Rattle.aero_intake.specs.Source.{Sight}
 use Rattle.aero_intake.specs.declared.source.SourceOf.{SourceOf}
@@ -27,6 +28,8 @@ pub record AreToldSo {R : Type 0} (known : R → Sight) (terms : Terms) (form : 
   pub endings : told.endings.items ≡ map ending_of founds
   pub notables : told.notables.items ≡ map notable founds
   pub counts : told.counts ≡ counts_of_all founds
+  pub begun : AreBegunAmong terms founds told.begun
+  pub flags : HasFlagsFor terms.rules.labels.labels told.begun
 
 -- The numbers of what was told over so many sources.
 pub record HasNumbersOf (sources : ℕ) (told : Told) : Type 0 where
@@ -37,13 +40,15 @@ pub record HasNumbersOf (sources : ℕ) (told : Told) : Type 0 where
   pub as_many : vec_len told.notables ≡ vec_len told.endings
   pub notables_room : vec_capacity told.notables ≡ sources
 
--- before anything is told
-pub record IsBegunSo (sources : ℕ) (told : Told) : Type 0 where
+-- before anything is told of so many sources, and of these labels
+pub record IsBegunSo (labels : List (List ℕ)) (sources : ℕ) (told : Told) : Type 0 where
   pub endings : told.endings.items ≡ []
   pub notables : told.notables.items ≡ []
   pub counts : told.counts ≡ no_counts
   pub room : vec_capacity told.endings ≡ sources
   pub notables_room : vec_capacity told.notables ≡ sources
+  pub begun : HasNoneBegun told.begun
+  pub flags : HasFlagsFor labels told.begun
 
 -- between two steps
 pub record StandsSo {R : Type 0} (known : R → Sight) (terms : Terms) (form : Form) (origin : List (SourceOf R)) (before after : Seen)
@@ -81,10 +86,11 @@ pub record StopsSo {R : Type 0} (known : R → Sight) (terms : Terms) (form : Fo
   pub endings : told.endings.items ≡ map ending_of founds
   pub notables : told.notables.items ≡ map notable founds
   pub counts : told.counts ≡ counts_of_all founds
+  pub begun : AreBegunAmong terms founds told.begun
   pub written : IsWrittenSo known terms form origin seats founds before after cause
 
 -- what is told of a source whose lane has ended: where nothing was found memory was refused
-abbrev pub TellsEnd : Form → List ℕ → Option intake.Found → Seen → Seen → Told → Told → Result Bool Cause → Type 0
+abbrev pub TellsEnd : Form → List ℕ → Option model.Found → Seen → Seen → Told → Told → Result Bool Cause → Type 0
 TellsEnd form name (Some found) before after old new result = TellsFound form name found before after old new result
 TellsEnd form name None before after old new (Err Memory) = Took before after [] × (new ≡ old)
 TellsEnd form name None before after old new (Err Write) = ⊥

@@ -6,6 +6,7 @@ ghost use Rattle.aero_model.specs.Terms.{Terms};
 
 use crate::seat::{Seat, source_of};
 use aero_intake::{Followed, SourceOf};
+use aero_model::Except;
 use aero_telling::told::Told;
 use crossbeam_channel::{Receiver, Sender};
 use std::alloc::{AllocError, Global};
@@ -21,21 +22,22 @@ pub(crate) struct Room<R: Followed> {
     pub(crate) ends: Receiver<u64>,
 }
 
-// Room for so many sources, and the lanes' end of the channel. The calling thread asks for no more memory, but to tell what
+// Room for so many sources and for what is told of the labels, and the lanes' end of the channel. The calling thread asks for no more memory, but to tell what
 // was found.
 pub(crate) fn room_for<R: Followed + Drop>(
     alloc: Global,
     sources: usize,
+    except: &Except,
 ) -> Result<(Room<R>, Sender<u64>), AllocError>
     requires { sources ≤ 65536 }
     ensures seats { IfOk result (λ made. (made.0.seats.items ≡ []) ×
         (vec_capacity made.0.seats ≡ sources)) }
-    ensures told { IfOk result (λ made. IsBegunSo sources made.0.told) }
+    ensures told { IfOk result (λ made. IsBegunSo except.now.labels sources made.0.told) }
     ensures back { IfOk result (λ made. (made.0.back.items ≡ []) ×
         (vec_capacity made.0.back ≡ sources)) }
 {
     let seats = Vec::with_capacity(alloc, sources)?;
-    let told = Told::new(alloc, sources)?;
+    let told = Told::new(alloc, sources, except)?;
     let back = Vec::with_capacity(alloc, sources)?;
     let (sender, ends) = crossbeam_channel::bounded(alloc, sources)?;
     let room = Room {

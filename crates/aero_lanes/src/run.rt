@@ -1,6 +1,7 @@
 //! The run in lanes.
 ghost use Rattle.std.specs.Prelude.{◌≡◌, ◌≤◌, [], map, vec_len, Some};
 ghost use Rattle.aero_telling.specs.Founds.{sighted, WasTold};
+ghost use Rattle.aero_telling.specs.Labels.{AreLabelsOf};
 ghost use Rattle.aero_telling.specs.Telling.{cause_of};
 ghost use Rattle.aero_intake.specs.PlanTerms.{terms_of};
 ghost use Rattle.aero_lanes.specs.Judged.{HasJudged, IsReady};
@@ -46,8 +47,10 @@ pub fn run_in_lanes<
         (map (sighted R.sight) result.1.items)
         (seen_by W.contents writer.old) (seen_by W.contents writer.new) result.0.told.endings.items
         result.0.told.notables.items result.0.told.counts result.0.cause }
+    ensures labels { AreLabelsOf (terms_of plan.now) (map (sighted R.sight) sources.items)
+        (map (sighted R.sight) result.1.items) result.0.told.endings.items result.0.told.begun }
 {
-    let Ok((mut room, ends)) = room_for(alloc, sources.len()) else {
+    let Ok((mut room, ends)) = room_for(alloc, sources.len(), plan.terms.except()) else {
         return (Report::refused(alloc), sources);
     };
     seat_all(&mut room.seats, sources);
@@ -69,7 +72,7 @@ fn judge_all<R: Followed + Drop + Send, W: Write, T: Threads + Wait + Copy + Syn
     room: Room<R>,
     writer: &mut Counting<W>,
 ) -> (Report, Vec<SourceOf<R>>)
-    requires { IsReady room }
+    requires { IsReady (terms_of shared.plan.now).rules.labels.labels room }
     ensures { HasJudged R.sight (terms_of shared.entry.plan.now) shared.entry.plan.now.form
         room.seats.items (seen_by W.contents writer.old) (seen_by W.contents writer.new) result.0
         result.1.items }
@@ -78,7 +81,7 @@ fn judge_all<R: Followed + Drop + Send, W: Write, T: Threads + Wait + Copy + Syn
         thread::scope_env(),
         shared.rt,
         move |scope| -> (Report, Vec<SourceOf<R>>, &mut Counting<W>)
-            requires { IsReady room }
+            requires { IsReady (terms_of shared.plan.now).rules.labels.labels room }
             ensures told { HasJudged R.sight (terms_of shared.entry.plan.now)
                 shared.entry.plan.now.form room.seats.items (seen_by W.contents writer.entry.now)
                 (seen_by W.contents result.2.now) result.0 result.1.items }
@@ -104,7 +107,7 @@ fn judge_in<'s, E, R: Followed + Drop + Send + 's, W: Write, T: Threads + Wait +
     room: Room<R>,
     writer: &mut Counting<W>,
 ) -> (Report, Vec<SourceOf<R>>)
-    requires { IsReady room }
+    requires { IsReady (terms_of shared.plan.now).rules.labels.labels room }
     ensures { HasJudged R.sight (terms_of shared.entry.plan.now) shared.entry.plan.now.form
         room.seats.items (seen_by W.contents writer.old) (seen_by W.contents writer.new) result.0
         result.1.items }

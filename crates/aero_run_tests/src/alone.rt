@@ -47,3 +47,39 @@ fn no_read_follows_the_one_that_decides(rt: HostRuntime) {
 fn nothing_is_found_of_a_source_that_is_given_up(rt: HostRuntime) {
     assert_eq!(rt; end_of(&rt, CROSSED, 1, true), None);
 }
+
+// Whether blocks begin with the first two of these labels in a source, of one byte a read. The inner `None` is that of `Found`.
+fn begun_in<T: AllocGlobal + Wait>(
+    rt: &T,
+    labels: &str,
+    text: &[u8],
+    stops: bool,
+) -> Option<Option<[bool; 2]>> {
+    let labels = listed(rt.alloc(), labels)?;
+    let plan = Plan::new(1, 1, Limits::greatest(), labels, false)?;
+    let plan = if stops { plan.stopping() } else { plan };
+    let mut reader = Counting::new(text);
+    let is_given_up = AtomicBool::new(false);
+    let found = judge_source(rt, rt.alloc(), &mut reader, &plan, &is_given_up)?;
+    Some(found.begun.map(|begun| [begun.has(0), begun.has(1)]))
+}
+
+// Its verdict is certain with line 4.
+const LABELLED_BEHIND: &[u8] =
+    b"T1|begin\nT1|w(x)\nT2|w(x)\nT1|r(x)\nT1|end\nT2|begin(g)\nT2|end\n";
+
+#[test]
+fn blocks_behind_a_violation_have_their_labels_told(rt: HostRuntime) {
+    let whole: &[u8] = b"T1|begin(f)\nT1|end\n";
+    let rows = [
+        ("f g", whole, false, Some([true, false])),
+        ("g f", whole, false, Some([false, true])),
+        ("g f", LABELLED_BEHIND, false, Some([true, false])),
+        ("g f", LABELLED_BEHIND, true, None),
+        ("f g", b"T1|begin(f)\nT1|begin(g)\nT1|r()\n", false, None),
+        ("f g", b"", false, Some([false, false])),
+    ];
+    for (labels, text, stops, begun) in rows {
+        assert_eq!(rt; begun_in(&rt, labels, text, stops), Some(begun));
+    }
+}

@@ -1,13 +1,22 @@
 -- What is told grows by one source at a time.
-use Rattle.std.proofs.Common.{◌≡◌, ℕ, zero, suc, ◌+◌, ◌<◌, ◌⊎◌, List, [], ◌∷◌, ◌++◌, map, length, take, slice_get, Option, Some, None, refl, sym, ◌∙◌, ap, subst, inl, inr, arith}
+use Rattle.std.proofs.Common.{◌≡◌, ℕ, zero, suc, ◌+◌, ◌<◌, ◌⊎◌, Bool, true, false, ◌&&◌, ◌||◌, List, [], ◌∷◌, ◌++◌, map, length, take, slice_get, Option, Some, None, refl, sym, ◌∙◌, ap, ap₂, subst, inl, inr, arith}
+use Rattle.std.specs.Prelude.{bytes_eq}
+use Rattle.std.specs.List.{list_all, list_any}
 use Rattle.std.proofs.KnownBytes.{Appends-nil, Appends-trans}
 use Rattle.std.proofs.lemmas.Grind.{flat_map-append}
+use Rattle.std.proofs.lemmas.Bool.{and_from, and_left, and_right, or_left, or_right}
 use Rattle.std.proofs.lemmas.List.{append-nil, map-append}
+use Rattle.std.proofs.lemmas.List.Folds.{list_all-append, list_any-append}
+use Rattle.std.proofs.lemmas.List.Quantifiers.{position-Some}
 use Rattle.std.proofs.lemmas.List.Sums.{fold-append}
 use Rattle.aero_model.specs.declared.verdict.Counts.{Counts}
 use Rattle.aero_model.specs.declared.verdict.Ending.{Ending}
 use Rattle.aero_model.specs.CallCounts.{Seen}
-use Rattle.aero_model.specs.Terms.{Terms}
+use Rattle.aero_model.specs.Terms.{Rules, Terms}
+use Rattle.aero_grammar.specs.Reading.{reading_of}
+use Rattle.aero_intake.specs.Begun.{AreBegun, AreNoted, all_begin, begins, is_read_through, noted_at}
+use Rattle.aero_intake.specs.declared.begun.Begun.{Begun}
+use Rattle.aero_intake.proofs.Begins.{all_weaker}
 use Rattle.aero_model.specs.Verdicts.{counts_of, counted, no_counts}
 use Rattle.aero_report.specs.declared.form.Form.{Form}
 use Rattle.aero_report.specs.Forms.{source_line_in, source_lines_in}
@@ -15,7 +24,8 @@ use Rattle.aero_telling.specs.declared.cause.Cause.{Cause}
 use Rattle.aero_telling.specs.declared.cause.Cause.TheVariants.{Memory, Write}
 use Rattle.aero_telling.specs.declared.notable.Notable.{Notable}
 use Rattle.aero_telling.specs.Founds.{Sighted, Found, told, lines_of_all, counts_of_all, no_text, Took, WasCutOff, IsNextText, IsWritten, WasRunTo, WasTold}
-use Rattle.aero_telling.specs.Telling.{SumsUp, WasCut}
+use Rattle.aero_telling.specs.Labels.{AreBegunAmong, AreLabelsOf, HasFlagsFor, HasNoneBegun, all_read_through, begins_among}
+use Rattle.aero_telling.specs.Telling.{JoinsLabels, SumsUp, WasCut}
 
 pub the_some : {A : Type 0} (x y : A) → Some x ≡ Some y → x ≡ y
 the_some x y p = cc p
@@ -137,3 +147,96 @@ summed_so terms form last old new before mid after es endings fs faults cs count
     (subst (λ x. WasRunTo terms form last old new before after es x counts cause) (sym same_faults)
     (subst (λ (x : Counts). WasRunTo terms form last old new before after es fs x cause) (sym same_counts)
     (summed terms form last old new before mid after es fs cs first cause was sums)))
+
+-- what is told of the labels, with one more source
+
+or_nothing : (b : Bool) → (b || false) ≡ b
+or_nothing true = refl
+or_nothing false = refl
+
+last_any : {X : Type 0} (p : X → Bool) (xs : List X) (x : X) → list_any p (xs ++ x ∷ []) ≡ (list_any p xs || p x)
+last_any p xs x = list_any-append p xs (x ∷ []) ∙ ap (λ b. list_any p xs || b) (or_nothing (p x))
+
+last_all : {X : Type 0} (p : X → Bool) (xs : List X) (x : X) → list_all p (xs ++ x ∷ []) ≡ (list_all p xs && p x)
+last_all p xs x = list_all-append p xs (x ∷ []) ∙ ap (λ b. list_all p xs && b) (and_nothing (p x))
+  where
+    and_nothing : (b : Bool) → (b && true) ≡ b
+    and_nothing true = refl
+    and_nothing false = refl
+
+pub none_begun : (terms : Terms) (begun : Option Begun) → HasNoneBegun begun → AreBegunAmong terms [] begun
+none_begun terms None none = absurd none
+none_begun terms (Some begun) none = (inl refl, λ place label at. none place)
+
+-- no source was told
+pub no_labels : (terms : Terms) (old new : List Sighted) (begun : Option Begun) → HasNoneBegun begun → AreLabelsOf terms old new [] begun
+no_labels terms old new begun none = record { founds = []; found = λ place f at. cc (at); ended = refl; begun_are = none_begun terms begun none }
+
+pub flags_more : (labels : List (List ℕ)) (had more new : Option Begun) → HasFlagsFor labels had → JoinsLabels had more new → HasFlagsFor labels new
+flags_more labels None more new room joins = subst (HasFlagsFor labels) (sym joins) tt
+flags_more labels (Some had) None new room joins = subst (HasFlagsFor labels) (sym joins) tt
+flags_more labels (Some had) (Some more) new room joins = subst (HasFlagsFor labels) (sym joins.1) (joins.2 ∙ room)
+
+pub begun_more : (terms : Terms) (founds : List Found) (f : Found) (had more new : Option Begun) → HasFlagsFor terms.rules.labels.labels had →
+    AreBegunAmong terms founds had → AreBegun terms f.bytes f.ending more → JoinsLabels had more new →
+    AreBegunAmong terms (founds ++ f ∷ []) new
+begun_more terms founds f had more new room before is joins = go had more room before is joins
+  where
+    rules : Rules
+    rules = terms.rules
+
+    labels : List (List ℕ)
+    labels = rules.labels.labels
+
+    Read : Found → Bool
+    Read g = is_read_through rules g.bytes g.ending
+
+    unread_before : all_read_through rules founds ≡ false → all_read_through rules (founds ++ f ∷ []) ≡ false
+    unread_before e = last_all Read founds f ∙ and_left (list_all Read founds) (Read f) e
+
+    unread_now : Read f ≡ false → all_read_through rules (founds ++ f ∷ []) ≡ false
+    unread_now e = last_all Read founds f ∙ and_right (list_all Read founds) (Read f) e
+
+    among : (label : List ℕ) → begins_among (founds ++ f ∷ []) label ≡ (begins_among founds label || begins label (reading_of f.bytes))
+    among label = last_any (λ g. begins label (reading_of g.bytes)) founds f
+
+    all_before : list_all (begins_among founds) labels ≡ true → list_all (begins_among (founds ++ f ∷ [])) labels ≡ true
+    all_before = all_weaker (begins_among founds) (begins_among (founds ++ f ∷ []))
+        (λ label there. among label ∙ or_left (begins_among founds label) (begins label (reading_of f.bytes)) there) labels
+
+    all_now : all_begin rules f.bytes ≡ true → list_all (begins_among (founds ++ f ∷ [])) labels ≡ true
+    all_now = all_weaker (λ label. begins label (reading_of f.bytes)) (begins_among (founds ++ f ∷ []))
+        (λ label here. among label ∙ or_right (begins_among founds label) (begins label (reading_of f.bytes)) here) labels
+
+    nothing_told : new ≡ None → AreBegunAmong terms (founds ++ f ∷ []) None → AreBegunAmong terms (founds ++ f ∷ []) new
+    nothing_told none why = subst (AreBegunAmong terms (founds ++ f ∷ [])) (sym none) why
+
+    go : (had more : Option Begun) → HasFlagsFor labels had → AreBegunAmong terms founds had → AreBegun terms f.bytes f.ending more →
+        JoinsLabels had more new → AreBegunAmong terms (founds ++ f ∷ []) new
+    go None more room before is joins = nothing_told joins (elim before [ inl stop ↦ inl stop | inr why ↦ inr (elim why [ inl unread ↦ inl (unread_before unread) | inr all ↦ inr (all_before all) ]) ])
+    go (Some had) None room before is joins = nothing_told joins (elim is [ inl stop ↦ inl stop | inr why ↦ inr (elim why [ inl unread ↦ inl (unread_now unread) | inr all ↦ inr (all_now all) ]) ])
+    go (Some had) (Some more) room before is joins =
+        subst (AreBegunAmong terms (founds ++ f ∷ [])) (sym joins.1) (
+          elim before.0 [
+            | inr all ↦ inr (all_before all)
+            | inl read ↦ elim is.0 [
+              | inr all ↦ inr (all_now all)
+              | inl here ↦ inl (last_all Read founds f ∙ and_from (list_all Read founds) (Read f) read here)
+            ]
+          ],
+          λ place label at.
+              let there = position-Some (bytes_eq label) labels place [] at in
+              joins.3 place (subst (λ n. place < n) (sym room) there.0)
+              ∙ (ap₂ (λ a b. a || b) (before.1 place label at) (is.1 place label at) ∙ sym (among label)),
+        )
+
+pub joins_both : (old found : Option Begun) (had more both : Begun) → old ≡ Some had → found ≡ Some more → length both.flags.items ≡ length had.flags.items →
+    ((place : ℕ) → place < length had.flags.items → noted_at both.flags.items place ≡ (noted_at had.flags.items place || noted_at more.flags.items place)) →
+    JoinsLabels old found (Some both)
+joins_both None found had more both old_is found_is count flags = cc (old_is)
+joins_both (Some a) None had more both old_is found_is count flags = cc (found_is)
+joins_both (Some a) (Some b) had more both old_is found_is count flags =
+    let first : a ≡ had = the_some a had old_is in
+    let second : b ≡ more = the_some b more found_is in
+    subst (λ (x : Begun). JoinsLabels (Some x) (Some b) (Some both)) (sym first)
+    (subst (λ (x : Begun). JoinsLabels (Some had) (Some x) (Some both)) (sym second) (both, refl, count, flags))

@@ -4,38 +4,46 @@ ghost use Rattle.aero_model.specs.CallCounts.{seen_by};
 ghost use Rattle.aero_report.specs.Asked.{options_of};
 ghost use Rattle.aero_report.specs.Forms.{summary_line_in};
 ghost use Rattle.aero_model.specs.Verdicts.{no_counts};
-ghost use Rattle.aero_telling.specs.Telling.{SumsUp, TellsFound, TellsText, HasRoom};
+ghost use Rattle.aero_telling.specs.Labels.{HasFlagsFor, HasNoneBegun};
+ghost use Rattle.aero_telling.specs.Telling.{JoinsLabels, SumsUp, TellsFound, TellsText, HasRoom};
 
 use crate::cause::Cause;
 use crate::notable::{Notable, notable_of};
-use aero_intake::Found;
-use aero_model::{Counting, Counts, Ending};
+use aero_intake::{Begun, Found};
+use aero_model::{Counting, Counts, Ending, Except};
 use aero_report::{Form, Options, put, source_text, totals_text};
 use std::alloc::{AllocError, Global};
 use std::io::Write;
 
-/// The endings of the sources that were told, in order, what is noted of each beside its line, and how many were
-/// found to be what.
+/// The endings of the sources that were told, in order, what is noted of each beside its line, how many were found to be
+/// what, and which labels of the list begin a block of one of them. The last is `None` where one of them wasn't read to its end
+/// or has a malformed line, and may be where a block begins with each label.
 #[derive(Drop)]
 pub struct Told {
     pub endings: Vec<(u64, Ending)>,
     pub notables: Vec<Option<Notable>>,
     pub counts: Counts,
+    pub begun: Option<Begun>,
 }
 
 impl Told {
-    /// Nothing is told yet, and there is room for so many sources.
-    pub fn new(alloc: Global, sources: usize) -> Result<Told, AllocError>
+    /// Nothing is told yet, and there is room for so many sources, and for each label of the list.
+    pub fn new(alloc: Global, sources: usize, except: &Except) -> Result<Told, AllocError>
         ensures endings { IfOk result (λ told. told.endings.items ≡ []) }
         ensures room { IfOk result (λ told. vec_capacity told.endings ≡ sources) }
         ensures notables { IfOk result (λ told. told.notables.items ≡ []) }
         ensures notables_room { IfOk result (λ told. vec_capacity told.notables ≡ sources) }
         ensures counts { IfOk result (λ told. told.counts ≡ no_counts) }
+        ensures begun { IfOk result (λ told. HasNoneBegun told.begun) }
+        ensures flags { IfOk result (λ told. HasFlagsFor except.now.labels told.begun) }
     {
+        let mut begun = Begun::none(alloc);
+        begun.make_room(alloc, except.labels().len())?;
         Ok(Told {
             endings: Vec::with_capacity(alloc, sources)?,
             notables: Vec::with_capacity(alloc, sources)?,
             counts: Counts::none(),
+            begun: Some(begun),
         })
     }
 }
@@ -55,12 +63,14 @@ impl Report {
         ensures endings { result.told.endings.items ≡ [] }
         ensures notables { result.told.notables.items ≡ [] }
         ensures counts { result.told.counts ≡ no_counts }
+        ensures begun { HasNoneBegun result.told.begun }
         ensures cause { result.cause ≡ Some Cause.Memory }
     {
         let told = Told {
             endings: Vec::new(alloc),
             notables: Vec::new(alloc),
             counts: Counts::none(),
+            begun: Some(Begun::none(alloc)),
         };
         Report {
             told,
@@ -96,7 +106,21 @@ pub fn tell_found<W: Write>(
     told.endings.push_reserved((found.bytes, found.ending));
     told.notables.push_reserved(notable_of(&found.finding));
     told.counts = told.counts.with(&found.finding);
+    join(&mut told.begun, &found.begun);
     Ok(true)
+}
+
+// Adds the labels that begin a block of a source, or of none if nothing is told of them.
+fn join(told: &mut Option<Begun>, found: &Option<Begun>)
+    ensures { JoinsLabels told.old found.now told.new }
+{
+    let Some(mut begun) = told.take() else {
+        return;
+    };
+    if let Some(more) = found {
+        begun.join(more);
+        *told = Some(begun);
+    }
 }
 
 /// Writes the summary of sources that were judged so.

@@ -19,6 +19,7 @@ fn outcome_of(alloc: Global, counts: [u64; 4], cause: Option<Cause>) -> Outcome 
             violations,
             faults,
         },
+        begun: None,
         cause,
         tally: Tally {
             asked: 0,

@@ -5,7 +5,8 @@ use Rattle.aero_telling.specs.declared.cause.Cause.{Cause}
 use Rattle.aero_telling.specs.declared.cause.Cause.TheVariants.{Memory}
 use Rattle.aero_telling.specs.declared.told.Told.{Told}
 use Rattle.std.specs.Prelude.{Some}
-use Rattle.aero_telling.specs.Founds.{sighted, WasTold}
+use Rattle.aero_telling.specs.Founds.{sighted}
+use Rattle.aero_telling.specs.Labels.{HasTold}
 use Rattle.aero_batch.specs.Holding.{Stands}
 use Rattle.aero_batch.proofs.Stands.{step_stands, memory_stops}
 use Rattle.aero_batch.proofs.run.advance.Goals as goal
@@ -36,7 +37,6 @@ returns-in-Err-clause-stopped g c = λ old before st.
     (λ s less. c.step.ensures.others s (λ e. omega (arith, less, e))) c.step.ensures.names
     (record { went = Appends-nil mid.bytes; faults = refl }) in
     let told = c.tell_ready.new.told in
-    subst (λ (x : Cause). WasTold terms form old after before
-    (seen_by g.W.Write.contents c.tell_ready.new.writer) told.endings.items told.notables.items told.counts (Some x)) (sym c.cause_of.ensures)
-    (subst (λ (s : Seen). WasTold terms form old after before s told.endings.items told.notables.items told.counts (Some Memory)) (sym same.0)
-    (subst (λ (t : Told). WasTold terms form old after before mid t.endings.items t.notables.items t.counts (Some Memory)) (sym same.1) stops))
+    subst (λ (x : Cause). HasTold terms form old after before (seen_by g.W.Write.contents c.tell_ready.new.writer) told (Some x)) (sym c.cause_of.ensures)
+    (subst (λ (s : Seen). HasTold terms form old after before s told (Some Memory)) (sym same.0)
+    (subst (λ (t : Told). HasTold terms form old after before mid t (Some Memory)) (sym same.1) stops))

@@ -8,6 +8,6 @@ use Rattle.aero_intake.proofs.alone.read_all.Given as goal
 
 abbrev pub invariant-reads : goal.invariant-reads
 invariant-reads g l =
-    MayRead (terms_of l.plan) l.so_far.intake (judging_of l.so_far.judge)
+    MayRead (terms_of l.plan) l.so_far.intake (judging_of l.so_far.judge) l.so_far.survey
     × StandsAlone (terms_of l.plan) (g.R.Followed.sight l.fn.reader) (g.R.Followed.sight l.reader) None l.so_far.intake (judging_of l.so_far.judge)
     × (origin_in (g.R.Followed.sight l.reader) ≡ origin_in (g.R.Followed.sight l.fn.reader))

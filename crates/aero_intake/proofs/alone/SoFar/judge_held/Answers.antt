@@ -14,7 +14,7 @@ returns-then-has_enough-clause-stands c before now ended stands =
     let terms = c.args.terms.now in
     let j = judging_of s.judge in
     subst (λ (i : Taking). StandsAlone terms before now ended i j) (sym c.pass_over.ensures)
-    (pass_stands terms before now ended s.intake j (c.has_enough.ensures.enough c.if-has_enough.true terms c.requires) stands)
+    (pass_stands terms before now ended s.intake j (c.has_enough.ensures.enough c.if-has_enough.true) stands)
 
 pub returns-clause-stands : goal.returns-clause-stands
 returns-clause-stands c =

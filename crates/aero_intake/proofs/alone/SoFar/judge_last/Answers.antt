@@ -8,9 +8,9 @@ use Rattle.aero_intake.proofs.AloneSteps.{last_judged, last_passed}
 use Rattle.aero_intake.proofs.alone.SoFar.judge_last.Goals as goal
 
 pub returns-then-has_enough-clause-judged : goal.returns-then-has_enough-clause-judged
-returns-then-has_enough-clause-judged c terms before now on none_held stands =
+returns-then-has_enough-clause-judged c before now none_held stands =
     let s = c.args.self.now in
-    last_passed terms before now s.intake (judging_of s.judge) none_held (c.has_enough.ensures.enough c.if-has_enough.true terms on) stands
+    last_passed c.args.terms.now before now s.intake (judging_of s.judge) none_held (c.has_enough.ensures.enough c.if-has_enough.true) stands
 
 pub returns-clause-judged : goal.returns-clause-judged
 returns-clause-judged c =
@@ -18,6 +18,6 @@ returns-clause-judged c =
     let j = judging_of s.judge in
     let k = judging_of c.judge_chunk.new.self.judge in
     let last : c.in_ok-last.last ≡ last_block s.intake.cutting = let is = c.in_ok-last.ensures.last in cc is in
-    on_ok_weaker c.judge_chunk.result (λ more terms before now on none_held stands.
-    last_judged terms before now s.intake j k none_held (c.has_enough.ensures.none_passed c.if-has_enough.false)
+    on_ok_weaker c.judge_chunk.result (λ more before now none_held stands.
+    last_judged c.args.terms.now before now s.intake j k none_held (c.has_enough.ensures.none_passed c.if-has_enough.false)
     (more ∙ ap (λ o. j.parts ++ map reading_of (option_to_list o)) last) stands) c.judge_chunk.ensures.parts

@@ -19,6 +19,6 @@ returns-clause-noted c = λ parts is.
     labels_marked labels part.labels parts c.args.part.now c.args.self.now _ c.make_room.new.self.flags.items is
     (c.make_room.ensures.same (subst (λ n. HasFlags n c.args.self.now.begun.flags.items) (sym (ap length c.labels.ensures)) is.room)) c.mark_all.ensures.marks
     (λ label.
-        table_begins (record { threads = part.threads; variables = part.variables; locks = part.locks }) part.labels part.events.items part.lines part.fault c.part.invariant label
-        ∙ ap (begins label) c.part.view_is)
+    table_begins (record { threads = part.threads; variables = part.variables; locks = part.locks }) part.labels part.events.items part.lines part.fault c.part.invariant label
+    ∙ ap (begins label) c.part.view_is)
     (c.mark_all.ensures.count ∙ (c.in_ok-make_room.ensures.room ∙ ap length c.labels.ensures)) c.first_without-self.ensures
