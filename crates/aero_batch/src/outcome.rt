@@ -6,13 +6,13 @@ pub use aero_telling::{Cause, Fault, FaultyLine, Notable};
 
 /// What a run came to. It speaks of the sources whose text was written whole, in their order: how
 /// many bytes were read of each and how its reading ended, what is noted of it beside its line, if
-/// something is, how many were found to be what, and which labels of the list begin a block of one of them (`None` where one
-/// wasn't read to its end or has a malformed line; it may be `None` too where a block begins with each label).
+/// something is, and how many were found to be what.
 #[derive(Drop)]
 pub struct Outcome {
     pub endings: Vec<(u64, Ending)>,
     pub notables: Vec<Option<Notable>>,
     pub counts: Counts,
+    /// Which labels of the list begin a block of one of the sources, as in `Told`.
     pub begun: Option<Begun>,
     /// Why it stopped before the summary was written, if it did.
     pub cause: Option<Cause>,

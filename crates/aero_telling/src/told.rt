@@ -15,14 +15,16 @@ use aero_report::{Form, Options, put, source_text, totals_text};
 use std::alloc::{AllocError, Global};
 use std::io::Write;
 
-/// The endings of the sources that were told, in order, what is noted of each beside its line, how many were found to be
-/// what, and which labels of the list begin a block of one of them. The last is `None` where one of them wasn't read to its end
-/// or has a malformed line, and may be where a block begins with each label.
+/// The endings of the sources that were told, in order, what is noted of each beside its line, and how many were
+/// found to be what.
 #[derive(Drop)]
 pub struct Told {
     pub endings: Vec<(u64, Ending)>,
     pub notables: Vec<Option<Notable>>,
     pub counts: Counts,
+    /// Which labels of the list begin a block of one of the sources. It is `None` if one of them wasn't read to its end or has a
+    /// malformed line, and where sources are read no further than they must be. It may be `None` too if a block begins with
+    /// each label.
     pub begun: Option<Begun>,
 }
 
