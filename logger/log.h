@@ -277,12 +277,14 @@ void aero_names_start(void);
 void aero_library_loaded(uintptr_t code);             /* that has code there: its names are read */
 bool aero_is_loaded(const char *file, size_t length); /* whether that of a library is called so */
 bool aero_is_of_unwinder(uintptr_t code);             /* or of what C++ has for locales */
-/* Whether the address is in the C++ library's file, with its variables. */
-extern _Atomic uintptr_t aero_cpp_low, aero_cpp_bytes;
-static inline bool aero_is_of_cpp_library(uintptr_t at) {
-    uintptr_t low = atomic_load_explicit(&aero_cpp_low, memory_order_relaxed);
-    return UNLIKELY(at - low < atomic_load_explicit(&aero_cpp_bytes, memory_order_relaxed));
+/* The files of the C++ library, with their variables: libc++ has libc++abi beside it. */
+struct file_of_cpp { _Atomic uintptr_t low, bytes; };
+extern struct file_of_cpp aero_cpp, aero_cpp_abi;
+static inline bool aero_is_in_file(const struct file_of_cpp *file, uintptr_t at) {
+    uintptr_t low = atomic_load_explicit(&file->low, memory_order_relaxed);
+    return UNLIKELY(at - low < atomic_load_explicit(&file->bytes, memory_order_relaxed));
 }
+static inline bool aero_is_of_cpp_library(uintptr_t at) { return aero_is_in_file(&aero_cpp, at) || aero_is_in_file(&aero_cpp_abi, at); }
 void aero_lock_names(void);
 void aero_unlock_names(void);
 const struct code *aero_code(uintptr_t at);           /* NULL where memory is refused */

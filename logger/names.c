@@ -29,7 +29,7 @@ struct object {
 enum { MOST_FILE = 255, MOST_PLACE = MOST_FILE + 32 };
 static struct object objects[MOST_OBJECTS];
 static int object_count;
-_Atomic uintptr_t aero_cpp_low, aero_cpp_bytes;
+struct file_of_cpp aero_cpp, aero_cpp_abi;
 
 /* The global variables of an object, from the first byte to the last one. The log's lock is held where these change, or are
  * looked at. */
@@ -206,6 +206,15 @@ static struct object *place_for_object(void) {
     return object_count < MOST_OBJECTS ? &objects[object_count++] : NULL;
 }
 
+/* Keeps where the object lies, if it is a file of the C++ library. */
+static void note_cpp(const struct object *object) {
+    bool is_abi = begins(object->name, "libc++abi.so");
+    if (!is_abi && !begins(object->name, "libstdc++.so") && !begins(object->name, "libc++.so")) return;
+    struct file_of_cpp *file = is_abi ? &aero_cpp_abi : &aero_cpp;
+    atomic_store(&file->low, object->low);
+    atomic_store(&file->bytes, object->high - object->low);
+}
+
 /* The object whose code has the address, or NULL; the lock of the names is held. */
 static struct object *object_at(uintptr_t at) {
     static struct search search;
@@ -224,10 +233,7 @@ static struct object *object_at(uintptr_t at) {
     now.path = keep_text(path);
     if (stat(path, &now.file)) now.file = (struct stat){0};
     *object = now;
-    if (begins(now.name, "libstdc++.so") || begins(now.name, "libc++.so")) {
-        atomic_store(&aero_cpp_low, now.low);
-        atomic_store(&aero_cpp_bytes, now.high - now.low);
-    }
+    note_cpp(&now);
     return object;
 }
 static bool is_program(const struct object *object) {
