@@ -3,7 +3,7 @@ use Rattle.std.proofs.Common.{◌≡◌, ℕ, zero, suc, List, [], ◌∷◌, ma
 use Rattle.std.specs.Prelude.{option_map, unwrap_or}
 use Rattle.std.proofs.lemmas.Option.{slice_get-map}
 use Rattle.aero_intake.specs.declared.source.SourceOf.{SourceOf}
-use Rattle.aero_intake.specs.Source.{Sight, origin_in}
+use Rattle.aero_intake.specs.Source.{Sight, place_in}
 use Rattle.aero_telling.specs.Founds.{Sighted, sighted, whose}
 use Rattle.aero_batch.specs.Steps.{IsReadFrom}
 use Rattle.aero_intake.proofs.Tracked.{changed_there, changed_elsewhere, set_changed}
@@ -38,7 +38,7 @@ module _ {R : Type 0} (sight : R → Sight) (sources : List (SourceOf R)) (place
   }
 
 pub names_stay : {R : Type 0} (sight : R → Sight) (sources : List (SourceOf R)) (place : ℕ) (x : SourceOf R) (reader : R) →
-    slice_get sources place ≡ Some x → origin_in (sight reader) ≡ origin_in (sight x.reader) →
+    slice_get sources place ≡ Some x → place_in (sight reader) ≡ place_in (sight x.reader) →
     map whose (map (sighted sight) (slice_set sources place (record x { reader = reader }))) ≡ map whose (map (sighted sight) sources)
 names_stay sight [] place x reader at kept = refl
 names_stay sight (c ∷ more) zero x reader at kept =

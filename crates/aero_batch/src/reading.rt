@@ -3,7 +3,7 @@ ghost use Rattle.std.specs.Prelude.{◌≡◌, ◌<◌, ◌≤◌, ◌+◌, ◌^
 ghost use Rattle.std.specs.Arc.{arc_value};
 ghost use Rattle.aero_intake.specs.PlanTerms.{terms_of};
 ghost use Rattle.aero_intake.specs.Intake.{nothing_taken, with_passing};
-ghost use Rattle.aero_intake.specs.Source.{origin_in};
+ghost use Rattle.aero_intake.specs.Source.{place_in};
 ghost use Rattle.aero_batch.specs.Steps.{MayAsk, ReadsOn, ReadsPiece, CutsHeld, LetsHeldGo, StopsReading, HasEnough, GoesOn, EndsSource, with_chunk, last_of, ended_track};
 
 use crate::helpers::Helpers;
@@ -35,7 +35,7 @@ pub fn read_on<R: Followed, H: Helpers, T: Wait>(
     ensures reads { OnOk result (ReadsOn (terms_of setting.now.plan.now) (R.sight reader.old)
         (R.sight reader.new)
         underway.old underway.new) }
-    ensures origin { origin_in (R.sight reader.new) ≡ origin_in (R.sight reader.old) }
+    ensures place { place_in (R.sight reader.new) ≡ place_in (R.sight reader.old) }
 {
     match underway.ended {
         Some(ending) if underway.intake.is_cut() => {

@@ -6,7 +6,7 @@ pub mod Decisive
 mod Filled
 pub mod Judged
 mod Joining
-mod Surveyed
+pub mod Surveyed
 pub mod Taken
 pub mod Tracked
 pub mod Values

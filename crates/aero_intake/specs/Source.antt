@@ -12,14 +12,9 @@ pub data Place : Type 0 where
   File : (path : List ℕ) → Place
   Nowhere : Place
 
--- what a reader was made for, which no read changes: where it reads, and the labels that it looks for
-pub record Origin : Type 0 where
-  pub place : Place
-  pub labels : List (List ℕ)
-
--- what a reader says of itself: what it was made for, and all bytes that it has given
+-- what a reader says of itself: where it reads, which no read changes, and all bytes that it has given
 pub record Trail : Type 0 where
-  pub origin : Origin
+  pub place : Place
   pub given : List ℕ
 
 -- Reads gave these bytes. A reader that says nothing of itself never does.
@@ -27,7 +22,7 @@ abbrev pub Trails : (before after : Option Trail) → List ℕ → Type 0
 Trails None None bytes = ⊤
 Trails None (Some after) bytes = ⊥
 Trails (Some before) None bytes = ⊥
-Trails (Some before) (Some after) bytes = (after.origin ≡ before.origin) × (after.given ≡ before.given ++ bytes)
+Trails (Some before) (Some after) bytes = (after.place ≡ before.place) × (after.given ≡ before.given ++ bytes)
 
 -- what contracts see of a reader at a moment: the bytes that it has left, where they are known, how many reads have failed, how many found the end, what it says of itself, if anything, whether a file of it is open, and whether it was closed before a read failed or found the end
 pub record Sight : Type 0 where
@@ -63,9 +58,9 @@ pub record Closes (before after : Sight) : Type 0 where
   pub trail : after.trail ≡ before.trail
   pub shut : after.is_open ≡ false
 
--- what a reader was made for, if it says so
-abbrev pub origin_in : Sight → Option Origin
-origin_in sight = option_map (λ (t : Trail). t.origin) sight.trail
+-- where a reader reads, if it says so
+abbrev pub place_in : Sight → Option Place
+place_in sight = option_map (λ (t : Trail). t.place) sight.trail
 
 abbrev pub is_whole : Ending → Bool
 is_whole Whole = true

@@ -5,7 +5,7 @@ ghost use Rattle.aero_intake.specs.Alone.{IsFoundIn, HasEnough, MayRead, StandsA
 ghost use Rattle.aero_intake.specs.Held.{NeedsNoLabel};
 ghost use Rattle.aero_intake.specs.Intake.{nothing_taken};
 ghost use Rattle.aero_intake.specs.PlanTerms.{terms_of};
-ghost use Rattle.aero_intake.specs.Source.{Sight, origin_in};
+ghost use Rattle.aero_intake.specs.Source.{Sight, place_in};
 ghost use Rattle.aero_model.specs.declared.verdict.Ending.{Ending as AnyEnding};
 ghost use Rattle.aero_model.specs.Terms.{to_the_end};
 ghost use Rattle.aero_judge.specs.Finding.{IsTraceFinding};
@@ -41,7 +41,7 @@ pub fn judge_source<R: Followed, T: Wait>(
 ) -> Option<Found>
     ensures found { IfSome result
         (IsFoundIn (terms_of plan.now) (R.sight reader.old) (R.sight reader.new)) }
-    ensures origin { origin_in (R.sight reader.new) ≡ origin_in (R.sight reader.old) }
+    ensures place { place_in (R.sight reader.new) ≡ place_in (R.sight reader.old) }
 {
     let Ok(mut so_far) = SoFar::new(alloc, plan) else {
         return None;
@@ -70,7 +70,7 @@ fn read_all<R: Followed, T: Wait>(
     ensures stands { IfSome result (λ ending. StandsAlone (terms_of plan.now)
         (R.sight reader.old) (R.sight reader.new) (Some ending) so_far.new.intake
         (judging_of so_far.new.judge)) }
-    ensures origin { origin_in (R.sight reader.new) ≡ origin_in (R.sight reader.old) }
+    ensures place { place_in (R.sight reader.new) ≡ place_in (R.sight reader.old) }
 {
     'reads: for _ in rt.forever() {
         if is_given_up.load(Ordering::SeqCst) {
@@ -128,7 +128,7 @@ impl SoFar {
             (judging_of self.old.judge) →
             StandsAlone (terms_of plan.now) before (R.sight reader.new) ended self.new.intake
             (judging_of self.new.judge)) }
-        ensures origin { origin_in (R.sight reader.new) ≡ origin_in (R.sight reader.old) }
+        ensures place { place_in (R.sight reader.new) ≡ place_in (R.sight reader.old) }
     {
         if self.stops_here(plan) {
             reader.close();

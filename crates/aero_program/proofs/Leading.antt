@@ -1,8 +1,6 @@
 -- What an input has noted, after one more read.
 use Rattle.std.proofs.Common.{◌≡◌, ◌∙◌, ◌+◌, ◌<◌, ℕ, ℤ, zero, suc, nat_lt, ◌==◌, Bool, true, false, List, [], ◌++◌, take, Option, None, Some, Result, Ok, Err, if◌then◌else◌, ap, sym, subst, refl, true≢false, arith}
-use Rattle.std.specs.Prelude.{◌&&◌, length, IfErr, IfOk, bytes_eq, is_err, is_some}
-use Rattle.std.specs.Coded.{Coded, Coded-set, codes}
-use Rattle.std.specs.List.{list_any}
+use Rattle.std.specs.Prelude.{◌&&◌, length, IfErr, is_err, is_some}
 use Rattle.std.proofs.Math.Logic.{∥∥₁_elim}
 use Rattle.std.proofs.lemmas.Bool.{ltb-true, ne_eqb}
 use Rattle.std.proofs.lemmas.Grind.{merely}
@@ -13,13 +11,11 @@ use Rattle.aero_program.specs.declared.input.Input.{Input}
 use Rattle.aero_program.specs.declared.reason.Reason.{Reason}
 use Rattle.aero_program.specs.declared.stamp.Stamp.{Stamp}
 use Rattle.aero_program.specs.Inputs.{Standing, Standard, Unopened, Reading, Ended, Failed, Closed, MayFailFrom, OpensTo, StepsTo, bytes_left, closed_in, open_in, opened_of, reason_of, shut, standing_of, start_of}
-use Rattle.aero_program.specs.Labels.{HasWatched, came_after, watched_in}
-use Rattle.aero_program.specs.Led.{HasCounted, HasRightlyFailed, IsLed, IsOpenedAt, IsStill, IsUnread, MayFailAt, StaysStream, place_of, reason_at, unbegun_in}
+use Rattle.aero_program.specs.Led.{HasCounted, HasRightlyFailed, IsLed, IsOpenedAt, IsStill, IsUnread, MayFailAt, StaysStream, place_of, reason_at}
 use Rattle.aero_program.specs.Reasons.{reason_after}
 use Rattle.aero_program.specs.Starts.{start_after}
 use Rattle.aero_program.proofs.Fronts.{front_more}
 use Rattle.aero_program.proofs.Gathering.{reason_stays}
-use Rattle.aero_watch.specs.Watches.{Watching, unbegun}
 
 start_on : {E : Type 0} (start came : List ℕ) (r : Result ℕ E) (buffer new : List ℕ) → start ≡ take 3 came → new ≡ start_after start r buffer → new ≡ take 3 (came ++ gained r buffer)
 start_on start came (Ok n) buffer new was is = is ∙ ap (λ s. take 3 (s ++ take n buffer)) was ∙ front_more 3 came (take n buffer)
@@ -35,11 +31,6 @@ failed_on : {E : Type 0} (number : E → Option ℤ) (faults : ℕ) (old new : O
 failed_on number faults old new (Ok n) was is some = ap is_some (is ∙ reason_stays number old n) ∙ was (omega (arith, some))
 failed_on number faults None new (Err e) was is some = ap is_some is
 failed_on number faults (Some why) new (Err e) was is some = ap is_some is
-
-seen_on : {E : Type 0} (old new : Option Watching) (came : List ℕ) (r : Result ℕ E) (buffer : List ℕ) → HasWatched old came
-    → ((c : List ℕ) → HasWatched old c → HasWatched new (came_after c r buffer)) → HasWatched new (came ++ gained r buffer)
-seen_on old new came (Ok n) buffer seen on = on came seen
-seen_on old new came (Err e) buffer seen on = subst (HasWatched new) (sym (append-nil came)) (on came seen)
 
 opened_on : (holds : List ℕ → Stamp → Option (List ℕ) → Type 0) (first old : Standing) (before after : Option Stamp) → IsStill first old → IsOpenedAt holds (place_of first) before
     → OpensTo holds old before after → IsOpenedAt holds (place_of first) after
@@ -232,9 +223,9 @@ stream_new (Closed left) unread = tt
 
 pub merely_led_new : {S O F : Type 0} (stdin : S → Option (List ℕ)) (known : O → List ℕ → Option (List ℕ)) (file : F → Option (List ℕ)) (can_fail : List ℕ → Type 0) (holds : List ℕ → Stamp → Option (List ℕ) → Type 0)
     (input first : Input S O F) (given : List ℕ) (faults ends : ℕ) → first ≡ input → given ≡ [] → faults ≡ 0 → ends ≡ 0
-    → start_of input ≡ [] → reason_of input ≡ reason_at (place_of (standing_of stdin known file input)) → opened_of input ≡ None → HasWatched input.watch [] → IsUnread (standing_of stdin known file input)
+    → start_of input ≡ [] → reason_of input ≡ reason_at (place_of (standing_of stdin known file input)) → opened_of input ≡ None → IsUnread (standing_of stdin known file input)
     → ∥ IsLed stdin known file can_fail holds first input given faults ends ∥₁
-merely_led_new stdin known file can_fail holds input first given faults ends first_is given_is faults_are ends_are start reason opened seen unread =
+merely_led_new stdin known file can_fail holds input first given faults ends first_is given_is faults_are ends_are start reason opened unread =
     let made : IsLed stdin known file can_fail holds input input [] 0 0 = record {
       start = start;
       reason = λ _. reason;
@@ -242,8 +233,6 @@ merely_led_new stdin known file can_fail holds input first given faults ends fir
       may = λ some. absurd (omega (arith, some));
       rightly = rightly_new can_fail (standing_of stdin known file input);
       stream = stream_new (standing_of stdin known file input) unread;
-      labels = refl;
-      seen = seen;
       opened = opened_new holds (place_of (standing_of stdin known file input)) (opened_of input) opened;
       still = still_new (standing_of stdin known file input);
     } in
@@ -261,8 +250,6 @@ pub record WasReadOnce {S O F E : Type 0} (stdin : S → Option (List ℕ)) (kno
   pub opens : OpensTo holds (standing_of stdin known file old) (opened_of old) (opened_of new)
   pub starts : start_of new ≡ start_after (start_of old) r buffer
   pub reasons : reason_of new ≡ reason_after number (reason_of old) r
-  pub watched : watched_in new.watch ≡ watched_in old.watch
-  pub sees : (c : List ℕ) → HasWatched old.watch c → HasWatched new.watch (came_after c r buffer)
 
 module _ {S O F E : Type 0} (stdin : S → Option (List ℕ)) (known : O → List ℕ → Option (List ℕ)) (file : F → Option (List ℕ)) (can_open can_fail : List ℕ → Type 0)
     (holds : List ℕ → Stamp → Option (List ℕ) → Type 0) (number : E → Option ℤ) (first old new : Input S O F) (r : Result ℕ E) (buffer : List ℕ)
@@ -280,8 +267,6 @@ module _ {S O F E : Type 0} (stdin : S → Option (List ℕ)) (known : O → Lis
         may = may_on can_fail at_first before faults r once.unclosed led.still led.rightly once.fails led.may;
         rightly = rightly_on can_open can_fail at_first before after buffer r once.steps led.still led.rightly once.fails;
         stream = stream_on can_open at_first before after buffer r faults ends once.steps led.stream;
-        labels = once.watched ∙ led.labels;
-        seen = seen_on old.watch new.watch came r buffer led.seen once.sees;
         opened = opened_on holds at_first before (opened_of old) (opened_of new) led.still led.opened once.opens;
         still = still_on can_open at_first before after buffer r once.steps led.still;
       }
@@ -349,9 +334,9 @@ still_shut first (Closed left) is = is
 -- an input that was closed has noted what it had noted before
 pub merely_led_shut : {S O F : Type 0} (stdin : S → Option (List ℕ)) (known : O → List ℕ → Option (List ℕ)) (file : F → Option (List ℕ)) (can_fail : List ℕ → Type 0) (holds : List ℕ → Stamp → Option (List ℕ) → Type 0)
     (first old new : Input S O F) (came : List ℕ) (faults ends : ℕ) → standing_of stdin known file new ≡ shut (standing_of stdin known file old)
-    → start_of new ≡ start_of old → reason_of new ≡ reason_of old → opened_of new ≡ opened_of old → new.watch ≡ old.watch
+    → start_of new ≡ start_of old → reason_of new ≡ reason_of old → opened_of new ≡ opened_of old
     → ∥ IsLed stdin known file can_fail holds first old came faults ends ∥₁ → ∥ IsLed stdin known file can_fail holds first new came faults ends ∥₁
-merely_led_shut stdin known file can_fail holds first old new came faults ends standing start reason opened watch led =
+merely_led_shut stdin known file can_fail holds first old new came faults ends standing start reason opened led =
     let at_first = standing_of stdin known file first in
     let before = standing_of stdin known file old in
     ∥∥₁_elim led squash₁ (λ l. merely (record {
@@ -361,21 +346,6 @@ merely_led_shut stdin known file can_fail holds first old new came faults ends s
       may = l.may;
       rightly = subst (HasRightlyFailed can_fail (place_of at_first)) (sym standing) (rightly_shut can_fail (place_of at_first) before l.rightly);
       stream = subst (λ (s : Standing). StaysStream at_first s faults ends) (sym standing) (stream_shut at_first before faults ends l.stream);
-      labels = ap watched_in watch ∙ l.labels;
-      seen = subst (λ w. HasWatched w came) (sym watch) l.seen;
       opened = subst (IsOpenedAt holds (place_of at_first)) (sym opened) l.opened;
       still = subst (IsStill at_first) (sym standing) (still_shut at_first before l.still);
     }))
-
-bool_code : Coded Bool
-bool_code = hlevel codes
-
--- what an input that was led so lacks
-pub lacks_so : {S O F E : Type 0} (stdin : S → Option (List ℕ)) (known : O → List ℕ → Option (List ℕ)) (file : F → Option (List ℕ)) (can_fail : List ℕ → Type 0) (holds : List ℕ → Stamp → Option (List ℕ) → Type 0)
-    (first now : Input S O F) (came : List ℕ) (faults ends : ℕ) (label : List ℕ) (result : Result Bool E)
-    → ((c : List ℕ) → HasWatched now.watch c → IfOk result (λ lacks. lacks ≡ list_any (bytes_eq label) (unbegun (watched_in now.watch) c)))
-    → ∥ IsLed stdin known file can_fail holds first now came faults ends ∥₁ → IfOk result (λ lacks. lacks ≡ list_any (bytes_eq label) (unbegun_in first came))
-lacks_so stdin known file can_fail holds first now came faults ends label (Err e) whole led = tt
-lacks_so stdin known file can_fail holds first now came faults ends label (Ok lacks) whole led =
-    ∥∥₁_elim led (Coded-set bool_code lacks (list_any (bytes_eq label) (unbegun_in first came)))
-    (λ l. whole came l.seen ∙ ap (λ ls. list_any (bytes_eq label) (unbegun ls came)) l.labels)

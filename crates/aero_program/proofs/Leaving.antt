@@ -5,7 +5,7 @@ use Rattle.std.proofs.Math.Logic.{∥∥₁_elim}
 use Rattle.std.proofs.lemmas.Grind.{merely}
 use Rattle.std.proofs.lemmas.List.{length-map}
 use Rattle.aero_telling.specs.Founds.{Sighted, whose}
-use Rattle.aero_intake.specs.Source.{Origin, Stream, origin_in}
+use Rattle.aero_intake.specs.Source.{Place, Stream, place_in}
 use Rattle.aero_model.specs.CallCounts.{Seen}
 use Rattle.aero_program.specs.declared.command.Sources.{Sources}
 use Rattle.aero_program.specs.declared.command.Sources.TheVariants as sources
@@ -23,23 +23,22 @@ the_head : {A : Type 0} (x y : A) (xs ys : List A) → x ∷ xs ≡ y ∷ ys →
 the_head x y xs ys p = cc p
 
 -- Where standard input is the source, it is the one, and its reader was made for it. Else it is left as beside the sources.
-pub left_by : (paths : List ℕ → Option (List ℕ)) (labels : List (List ℕ)) (files : Sources) (given : Option (List ℕ)) (names : List (List ℕ)) (new : List Sighted) (rest left : Option Seen)
+pub left_by : (paths : List ℕ → Option (List ℕ)) (files : Sources) (given : Option (List ℕ)) (names : List (List ℕ)) (new : List Sighted) (rest left : Option Seen)
     → IsLeftBeside files given rest → (is_some rest ≡ true → left ≡ rest)
-    → map whose new ≡ map whose (source_sightings paths labels files given names) → AreNames paths files given names
+    → map whose new ≡ map whose (source_sightings paths files given names) → AreNames paths files given names
     → (rest ≡ None → length new ≡ 1 → (s : Sighted) → slice_get new 0 ≡ Some s → IsLeftOf s left) → IsLeftBy files given new left
-left_by paths labels (sources.Files words) given names new rest left beside same kept named of_one = same (ap is_some beside) ∙ beside
-left_by paths labels (sources.Listed path) given names new rest left beside same kept named of_one = record {
+left_by paths (sources.Files words) given names new rest left beside same kept named of_one = same (ap is_some beside) ∙ beside
+left_by paths (sources.Listed path) given names new rest left beside same kept named of_one = record {
   stream = λ is. let read = beside.stream is in (read.0, same (ap is_some read.1) ∙ read.1, read.2, read.3);
   file = λ is. same (ap is_some (beside.file is)) ∙ beside.file is;
 }
-left_by paths labels (sources.Standard name) given names [] rest left beside same kept named of_one = λ s at. absurd (cc)
-left_by paths labels (sources.Standard name) given names (x ∷ more) rest left beside same kept named of_one = λ s at.
-    let made : Origin = record { place = Stream; labels = labels } in
-    let one = kept ∙ ap (λ ns. map whose (source_sightings paths labels (sources.Standard name) given ns)) named in
+left_by paths (sources.Standard name) given names [] rest left beside same kept named of_one = λ s at. absurd (cc)
+left_by paths (sources.Standard name) given names (x ∷ more) rest left beside same kept named of_one = λ s at.
+    let one = kept ∙ ap (λ ns. map whose (source_sightings paths (sources.Standard name) given ns)) named in
     let count : length (x ∷ more) ≡ 1 = sym (length-map (x ∷ more) whose) ∙ ap length one in
-    let first : origin_in x.reader ≡ Some made = ap (λ (w : List ℕ × Option Origin). w.1) (the_head (whose x) _ (map whose more) [] one) in
+    let first : place_in x.reader ≡ Some Stream = ap (λ (w : List ℕ × Option Place). w.1) (the_head (whose x) _ (map whose more) [] one) in
     let is : x ≡ s = the_some x s at in
-    of_one beside count s at made (ap (λ (y : Sighted). origin_in y.reader) (sym is) ∙ first) refl
+    of_one beside count s at (ap (λ (y : Sighted). place_in y.reader) (sym is) ∙ first)
 
 -- a stream that has failed and found the end so often is seen so
 seen_as : (bytes : Option (List ℕ)) (reader : Seen) (faults ends : ℕ) → bytes ≡ reader.bytes → reader.faults ≡ faults → reader.ends ≡ ends

@@ -17,6 +17,7 @@ mod Reaching
 mod Sizing
 mod Stamps
 mod Tells
+mod Unbegun
 mod Unused
 mod Wording
 mod Sending

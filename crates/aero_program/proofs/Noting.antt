@@ -15,21 +15,21 @@ use Rattle.aero_intake.specs.declared.source.SourceOf.{SourceOf}
 use Rattle.aero_report.specs.Options.{Note}
 use Rattle.aero_program.specs.declared.input.Input.{Input}
 use Rattle.aero_program.specs.declared.stamp.Stamp.{Stamp}
-use Rattle.aero_program.specs.Notes.{AreNotable, AreNoted, AreNotes, AreShown, GrowsBy, Noted, Remark, notable_told, missing_in_each, note_items, noted_of, noted_of_all, notes_on, was_too_large}
+use Rattle.aero_program.specs.Notes.{AreNotable, AreNoted, AreNotes, AreShown, GrowsBy, Noted, Remark, notable_told, note_items, noted_of, noted_of_all, notes_on, was_too_large}
 use Rattle.aero_program.specs.Looks.{ShowsAs}
 use Rattle.aero_faults.specs.declared.look.Look.TheVariants.{Nothing}
 
-pub one_more : {R S O F : Type 0} (input : R → Input S O F) (unused : R → List (List ℕ)) (words : Bool) (sources : List (SourceOf R)) (source : SourceOf R) (endings : List (ℕ × Ending)) (notables : List (Option Notable))
-    → noted_of_all input unused words (sources ++ source ∷ []) endings notables
-    ≡ noted_of_all input unused words sources endings notables ++ noted_of input unused words source (was_too_large (slice_get endings (length sources))) (notable_told (slice_get notables (length sources))) ∷ []
-one_more input unused words [] source [] [] = refl
-one_more input unused words [] source [] (notable ∷ notables) = refl
-one_more input unused words [] source (ending ∷ rest) [] = refl
-one_more input unused words [] source (ending ∷ rest) (notable ∷ notables) = refl
-one_more input unused words (first ∷ more) source [] [] = ap (λ l. noted_of input unused words first false None ∷ l) (one_more input unused words more source [] [])
-one_more input unused words (first ∷ more) source [] (notable ∷ notables) = ap (λ l. noted_of input unused words first false notable ∷ l) (one_more input unused words more source [] notables)
-one_more input unused words (first ∷ more) source (ending ∷ rest) [] = ap (λ l. noted_of input unused words first (was_too_large (Some ending)) None ∷ l) (one_more input unused words more source rest [])
-one_more input unused words (first ∷ more) source (ending ∷ rest) (notable ∷ notables) = ap (λ l. noted_of input unused words first (was_too_large (Some ending)) notable ∷ l) (one_more input unused words more source rest notables)
+pub one_more : {R S O F : Type 0} (input : R → Input S O F) (came : R → List ℕ) (words : Bool) (sources : List (SourceOf R)) (source : SourceOf R) (endings : List (ℕ × Ending)) (notables : List (Option Notable))
+    → noted_of_all input came words (sources ++ source ∷ []) endings notables
+    ≡ noted_of_all input came words sources endings notables ++ noted_of input came words source (was_too_large (slice_get endings (length sources))) (notable_told (slice_get notables (length sources))) ∷ []
+one_more input came words [] source [] [] = refl
+one_more input came words [] source [] (notable ∷ notables) = refl
+one_more input came words [] source (ending ∷ rest) [] = refl
+one_more input came words [] source (ending ∷ rest) (notable ∷ notables) = refl
+one_more input came words (first ∷ more) source [] [] = ap (λ l. noted_of input came words first false None ∷ l) (one_more input came words more source [] [])
+one_more input came words (first ∷ more) source [] (notable ∷ notables) = ap (λ l. noted_of input came words first false notable ∷ l) (one_more input came words more source [] notables)
+one_more input came words (first ∷ more) source (ending ∷ rest) [] = ap (λ l. noted_of input came words first (was_too_large (Some ending)) None ∷ l) (one_more input came words more source rest [])
+one_more input came words (first ∷ more) source (ending ∷ rest) (notable ∷ notables) = ap (λ l. noted_of input came words first (was_too_large (Some ending)) notable ∷ l) (one_more input came words more source rest notables)
 
 -- nothing is told of no sources
 pub no_notes : (holds : List ℕ → Stamp → Option (List ℕ) → Type 0) → AreNotes holds [] []
@@ -74,29 +74,29 @@ abbrev unchecked_in : Option Noted → Bool
 unchecked_in None = false
 unchecked_in (Some noted) = noted.unchecked
 
-pub are_noted : {R S O F : Type 0} (input : R → Input S O F) (unused : R → List (List ℕ)) (words : Bool) (sources : List (SourceOf R)) (endings : List (ℕ × Ending)) (notables : List (Option Notable))
-    → AreNoted words endings (noted_of_all input unused words sources endings notables)
-are_noted input unused words [] endings notables at n is = absurd (cc)
-are_noted input unused words (source ∷ more) [] [] zero n is = (sym (ap large_in is), sym (ap (word_in words) is))
-are_noted input unused words (source ∷ more) [] [] (suc at) n is = are_noted input unused words more [] [] at n is
-are_noted input unused words (source ∷ more) [] (notable ∷ notables) zero n is = (sym (ap large_in is), sym (ap (word_in words) is))
-are_noted input unused words (source ∷ more) [] (notable ∷ notables) (suc at) n is = are_noted input unused words more [] notables at n is
-are_noted input unused words (source ∷ more) (ending ∷ rest) [] zero n is = (sym (ap large_in is), sym (ap (word_in words) is))
-are_noted input unused words (source ∷ more) (ending ∷ rest) [] (suc at) n is = are_noted input unused words more rest [] at n is
-are_noted input unused words (source ∷ more) (ending ∷ rest) (notable ∷ notables) zero n is = (sym (ap large_in is), sym (ap (word_in words) is))
-are_noted input unused words (source ∷ more) (ending ∷ rest) (notable ∷ notables) (suc at) n is = are_noted input unused words more rest notables at n is
+pub are_noted : {R S O F : Type 0} (input : R → Input S O F) (came : R → List ℕ) (words : Bool) (sources : List (SourceOf R)) (endings : List (ℕ × Ending)) (notables : List (Option Notable))
+    → AreNoted words endings (noted_of_all input came words sources endings notables)
+are_noted input came words [] endings notables at n is = absurd (cc)
+are_noted input came words (source ∷ more) [] [] zero n is = (sym (ap large_in is), sym (ap (word_in words) is))
+are_noted input came words (source ∷ more) [] [] (suc at) n is = are_noted input came words more [] [] at n is
+are_noted input came words (source ∷ more) [] (notable ∷ notables) zero n is = (sym (ap large_in is), sym (ap (word_in words) is))
+are_noted input came words (source ∷ more) [] (notable ∷ notables) (suc at) n is = are_noted input came words more [] notables at n is
+are_noted input came words (source ∷ more) (ending ∷ rest) [] zero n is = (sym (ap large_in is), sym (ap (word_in words) is))
+are_noted input came words (source ∷ more) (ending ∷ rest) [] (suc at) n is = are_noted input came words more rest [] at n is
+are_noted input came words (source ∷ more) (ending ∷ rest) (notable ∷ notables) zero n is = (sym (ap large_in is), sym (ap (word_in words) is))
+are_noted input came words (source ∷ more) (ending ∷ rest) (notable ∷ notables) (suc at) n is = are_noted input came words more rest notables at n is
 
-pub are_notable : {R S O F : Type 0} (input : R → Input S O F) (unused : R → List (List ℕ)) (words : Bool) (sources : List (SourceOf R)) (endings : List (ℕ × Ending)) (notables : List (Option Notable))
-    → AreNotable notables (noted_of_all input unused words sources endings notables)
-are_notable input unused words [] endings notables at n is = absurd (cc)
-are_notable input unused words (source ∷ more) [] [] zero n is = (sym (ap fault_in is), sym (ap unchecked_in is))
-are_notable input unused words (source ∷ more) [] [] (suc at) n is = are_notable input unused words more [] [] at n is
-are_notable input unused words (source ∷ more) [] (notable ∷ notables) zero n is = (sym (ap fault_in is), sym (ap unchecked_in is))
-are_notable input unused words (source ∷ more) [] (notable ∷ notables) (suc at) n is = are_notable input unused words more [] notables at n is
-are_notable input unused words (source ∷ more) (ending ∷ rest) [] zero n is = (sym (ap fault_in is), sym (ap unchecked_in is))
-are_notable input unused words (source ∷ more) (ending ∷ rest) [] (suc at) n is = are_notable input unused words more rest [] at n is
-are_notable input unused words (source ∷ more) (ending ∷ rest) (notable ∷ notables) zero n is = (sym (ap fault_in is), sym (ap unchecked_in is))
-are_notable input unused words (source ∷ more) (ending ∷ rest) (notable ∷ notables) (suc at) n is = are_notable input unused words more rest notables at n is
+pub are_notable : {R S O F : Type 0} (input : R → Input S O F) (came : R → List ℕ) (words : Bool) (sources : List (SourceOf R)) (endings : List (ℕ × Ending)) (notables : List (Option Notable))
+    → AreNotable notables (noted_of_all input came words sources endings notables)
+are_notable input came words [] endings notables at n is = absurd (cc)
+are_notable input came words (source ∷ more) [] [] zero n is = (sym (ap fault_in is), sym (ap unchecked_in is))
+are_notable input came words (source ∷ more) [] [] (suc at) n is = are_notable input came words more [] [] at n is
+are_notable input came words (source ∷ more) [] (notable ∷ notables) zero n is = (sym (ap fault_in is), sym (ap unchecked_in is))
+are_notable input came words (source ∷ more) [] (notable ∷ notables) (suc at) n is = are_notable input came words more [] notables at n is
+are_notable input came words (source ∷ more) (ending ∷ rest) [] zero n is = (sym (ap fault_in is), sym (ap unchecked_in is))
+are_notable input came words (source ∷ more) (ending ∷ rest) [] (suc at) n is = are_notable input came words more rest [] at n is
+are_notable input came words (source ∷ more) (ending ∷ rest) (notable ∷ notables) zero n is = (sym (ap fault_in is), sym (ap unchecked_in is))
+are_notable input came words (source ∷ more) (ending ∷ rest) (notable ∷ notables) (suc at) n is = are_notable input came words more rest notables at n is
 
 -- what a look-up gives
 pub looked_up : {A : Type 0} (o : Option (Bor A)) (xs : List A) (i : ℕ) → is_some o ≡ nat_lt i (length xs) → IfSome o (λ x. x.now ≡ get_or xs i x.now) → option_copied o ≡ slice_get xs i
@@ -126,13 +126,14 @@ pub record ToldRemarks {V : Type 0} (holds : List ℕ → Stamp → Option (List
   pub shown : AreShown holds remarks
   pub told : IfSome notes (λ n. items n ≡ notes_on remarks)
 
-pub missing_noted : {R S O F : Type 0} (input : R → Input S O F) (unused : R → List (List ℕ)) (words : Bool) (sources : List (SourceOf R)) (endings : List (ℕ × Ending)) (notables : List (Option Notable))
-    → map (λ n. n.missing) (noted_of_all input unused words sources endings notables) ≡ map (λ s. unused s.reader) sources
-missing_noted input unused words [] endings notables = refl
-missing_noted input unused words (source ∷ more) [] [] = ap (λ l. unused source.reader ∷ l) (missing_noted input unused words more [] [])
-missing_noted input unused words (source ∷ more) [] (notable ∷ notables) = ap (λ l. unused source.reader ∷ l) (missing_noted input unused words more [] notables)
-missing_noted input unused words (source ∷ more) (ending ∷ rest) [] = ap (λ l. unused source.reader ∷ l) (missing_noted input unused words more rest [])
-missing_noted input unused words (source ∷ more) (ending ∷ rest) (notable ∷ notables) = ap (λ l. unused source.reader ∷ l) (missing_noted input unused words more rest notables)
+-- what was noted of the sources has the bytes that came of them
+pub came_noted : {R S O F : Type 0} (input : R → Input S O F) (came : R → List ℕ) (words : Bool) (sources : List (SourceOf R)) (endings : List (ℕ × Ending)) (notables : List (Option Notable))
+    → map (λ n. n.came) (noted_of_all input came words sources endings notables) ≡ map (λ s. came s.reader) sources
+came_noted input came words [] endings notables = refl
+came_noted input came words (source ∷ more) [] [] = ap (λ l. came source.reader ∷ l) (came_noted input came words more [] [])
+came_noted input came words (source ∷ more) [] (notable ∷ notables) = ap (λ l. came source.reader ∷ l) (came_noted input came words more [] notables)
+came_noted input came words (source ∷ more) (ending ∷ rest) [] = ap (λ l. came source.reader ∷ l) (came_noted input came words more rest [])
+came_noted input came words (source ∷ more) (ending ∷ rest) (notable ∷ notables) = ap (λ l. came source.reader ∷ l) (came_noted input came words more rest notables)
 
 told_on : {V : Type 0} (holds : List ℕ → Stamp → Option (List ℕ) → Type 0) (items : V → List Note) (noted : List Noted) (notes : Option V)
     → IfSome notes (λ n. AreNotes holds noted (items n)) → ToldRemarks holds items noted notes
@@ -140,48 +141,11 @@ told_on holds items noted (Some n) h = record { remarks = h.remarks; are = h.are
 told_on holds items noted None h = record { remarks = map unseen noted; are = unseen_are noted; shown = unseen_shown holds noted; told = tt }
 
 -- the notes on sources that are named so
-pub told_as : {R S O F V : Type 0} (input : R → Input S O F) (unused : R → List (List ℕ)) (holds : List ℕ → Stamp → Option (List ℕ) → Type 0) (items : V → List Note) (is words : Bool) (sources : List (SourceOf R))
+pub told_as : {R S O F V : Type 0} (input : R → Input S O F) (came : R → List ℕ) (holds : List ℕ → Stamp → Option (List ℕ) → Type 0) (items : V → List Note) (is words : Bool) (sources : List (SourceOf R))
     (given : List (ℕ × Ending)) (notables : List (Option Notable))
     → is ≡ words → (notes : Option V)
-    → IfSome notes (λ n. AreNotes holds (noted_of_all input unused is sources given notables) (items n))
-    → ToldRemarks holds items (noted_of_all input unused words sources given notables) notes
-told_as input unused holds items is words sources given notables known notes h =
-    told_on holds items (noted_of_all input unused words sources given notables) notes
-    (subst (λ w. IfSome notes (λ n. AreNotes holds (noted_of_all input unused w sources given notables) (items n))) known h)
-
--- labels and lists of missing ones
-
-filter_all : (f : List ℕ → Bool) → ((x : List ℕ) → f x ≡ true) → (xs : List (List ℕ)) → filter f xs ≡ xs
-filter_all f is [] = refl
-filter_all f is (x ∷ xs) = ap (λ b. if b then x ∷ filter f xs else filter f xs) (is x) ∙ ap (λ l. x ∷ l) (filter_all f is xs)
-
-pub missing_in_none : (labels : List (List ℕ)) → labels ≡ missing_in_each [] labels
-missing_in_none labels = sym (filter_all (λ label. true) (λ x. refl) labels)
-
-pub missing_of_none : (lists : List (List (List ℕ))) (labels names : List (List ℕ)) → names ≡ labels → labels ≡ [] → names ≡ missing_in_each lists labels
-missing_of_none lists labels names are none = are ∙ none ∙ ap (missing_in_each lists) (sym none)
-
-filter_both_step : (a b : Bool) (f : List ℕ → Bool) (x : List ℕ) (ys zs : List (List ℕ)) → f x ≡ b → filter f ys ≡ zs → filter f (if a then x ∷ ys else ys) ≡ (if a && b then x ∷ zs else zs)
-filter_both_step false b f x ys zs at later = later
-filter_both_step true true f x ys zs at later = ap (λ c. if c then x ∷ filter f ys else filter f ys) at ∙ ap (λ l. x ∷ l) later
-filter_both_step true false f x ys zs at later = ap (λ c. if c then x ∷ filter f ys else filter f ys) at ∙ later
-
-all_more : (f : List (List ℕ) → Bool) (lists : List (List (List ℕ))) (m : List (List ℕ)) → list_all f (lists ++ m ∷ []) ≡ (list_all f lists && f m)
-all_more f [] m = alone (f m)
-  where
-    alone : (b : Bool) → (b && true) ≡ b
-    alone true = refl
-    alone false = refl
-all_more f (first ∷ lists) m = ap (λ b. f first && b) (all_more f lists m) ∙ grouped (f first)
-  where
-    grouped : (a : Bool) → (a && (list_all f lists && f m)) ≡ ((a && list_all f lists) && f m)
-    grouped true = refl
-    grouped false = refl
-
-pub missing_in_more : (lists : List (List (List ℕ))) (m : List (List ℕ)) (labels : List (List ℕ))
-    → filter (λ label. list_any (bytes_eq label) m) (missing_in_each lists labels) ≡ missing_in_each (lists ++ m ∷ []) labels
-missing_in_more lists m [] = refl
-missing_in_more lists m (x ∷ labels) =
-    let f : List (List ℕ) → Bool = λ missing. list_any (bytes_eq x) missing in
-    filter_both_step (list_all f lists) (f m) (λ label. list_any (bytes_eq label) m) x (missing_in_each lists labels) (missing_in_each (lists ++ m ∷ []) labels) refl (missing_in_more lists m labels)
-    ∙ ap (λ b. if b then x ∷ missing_in_each (lists ++ m ∷ []) labels else missing_in_each (lists ++ m ∷ []) labels) (sym (all_more f lists m))
+    → IfSome notes (λ n. AreNotes holds (noted_of_all input came is sources given notables) (items n))
+    → ToldRemarks holds items (noted_of_all input came words sources given notables) notes
+told_as input came holds items is words sources given notables known notes h =
+    told_on holds items (noted_of_all input came words sources given notables) notes
+    (subst (λ w. IfSome notes (λ n. AreNotes holds (noted_of_all input came w sources given notables) (items n))) known h)

@@ -49,7 +49,7 @@ stage_send S O F s o f = enum_send (enums.shape (Stage.the_type S O F))
 
 input_send : (S O F : RattleType) → IsSend S → IsSend O → IsSend F → IsSend (Struct (structs.shape (Input.the_type S O F)))
 input_send S O F s o f = struct_send (structs.shape (Input.the_type S O F))
-    (stage_send S O F s o f, (start_send, (search (sendable, crosses, reason_send) depth 40, (search (sendable, crosses) depth 60 fits 6000, tt))))
+    (stage_send S O F s o f, (start_send, (search (sendable, crosses, reason_send) depth 40, tt)))
 
 traced_send : (S O F : RattleType) (s : _) (o : _) (f : _) → IsSend S → IsSend O → IsSend F → IsSend (Struct (structs.shape (Traced.the_type S O F s o f)))
 traced_send S O F s o f send-S send-O send-F = struct_send (structs.shape (Traced.the_type S O F s o f))

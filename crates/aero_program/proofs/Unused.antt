@@ -1,7 +1,9 @@
 -- The labels with which no block begins, and the notes on sources, in the summary and beside the report.
-use Rattle.std.proofs.Common.{◌≡◌, ◌∙◌, ℕ, Bool, true, false, true≢false, if◌then◌else◌, List, [], map, Option, None, Some, Result, Ok, Err, ap, ap₂, sym, subst, refl}
+use Rattle.std.proofs.Common.{◌≡◌, ◌∙◌, ℕ, Bool, true, false, true≢false, ◌&&◌, not, if◌then◌else◌, List, [], map, Option, None, Some, Result, Ok, Err, ap, ap₂, sym, subst, refl}
 use Rattle.std.proofs.KnownBytes.{Appends-nil}
 use Rattle.std.specs.Prelude.{IfOk, IfSome, IsSome}
+use Rattle.std.specs.List.{filter}
+use Rattle.aero_model.specs.Terms.{Terms}
 use Rattle.aero_model.specs.declared.verdict.Ending.{Ending}
 use Rattle.aero_model.specs.CallCounts.{Seen}
 use Rattle.aero_telling.specs.declared.cause.Cause.{Cause}
@@ -11,28 +13,17 @@ use Rattle.aero_telling.specs.Telling.{SumsUp}
 use Rattle.aero_intake.specs.declared.source.SourceOf.{SourceOf}
 use Rattle.aero_report.specs.Options.{Note}
 use Rattle.aero_program.specs.declared.input.Input.{Input}
-use Rattle.aero_program.specs.Notes.{all_read, labels_told, missing_in_each, noted_of_all}
-use Rattle.aero_program.proofs.Noting.{missing_noted}
+use Rattle.aero_program.specs.Notes.{begins_in_one, labels_told, noted_of_all}
 
 -- memory is refused behind the lines
 pub takes_nothing : (at : Seen) → Took at at []
 takes_nothing at = record { went = Appends-nil at.bytes; faults = refl }
 
-told_if : (read : Bool) (lists : List (List (List ℕ))) (labels : List (List ℕ)) → missing_in_each lists (if read then labels else []) ≡ (if read then missing_in_each lists labels else [])
-told_if true lists labels = refl
-told_if false lists labels = refl
-
 -- what is found where nothing stopped the run
-pub found_labels : {R S O F V : Type 0} (input : R → Input S O F) (unbegun : R → List (List ℕ)) (unused : Option V) (names : V → List (List ℕ)) (stopped : Option Cause) (endings : List (ℕ × Ending)) (words : Bool) (sources : List (SourceOf R))
-    (given : List (ℕ × Ending)) (notables : List (Option Notable)) (listed labels : List (List ℕ))
-    → IfSome unused (λ u. names u ≡ missing_in_each (map (λ s. unbegun s.reader) sources) listed) → listed ≡ (if all_read stopped endings then labels else [])
-    → stopped ≡ None → IfSome unused (λ u. names u ≡ labels_told None endings (noted_of_all input unbegun words sources given notables) labels)
-found_labels input unbegun None names stopped endings words sources given notables listed labels found are none = tt
-found_labels input unbegun (Some u) names stopped endings words sources given notables listed labels found are none =
-    let lists : List (List (List ℕ)) = map (λ s. unbegun s.reader) sources in
-    found ∙ ap (missing_in_each lists) (are ∙ ap (λ o. if all_read o endings then labels else []) none)
-    ∙ told_if (all_read None endings) lists labels
-    ∙ ap (λ ls. if all_read None endings then missing_in_each ls labels else []) (sym (missing_noted input unbegun words sources given notables))
+pub found_labels : {V : Type 0} (unused : Option V) (names : V → List (List ℕ)) (found told : List (List ℕ)) (stopped : Option Cause)
+    → IfSome unused (λ u. names u ≡ found) → (stopped ≡ None → found ≡ told) → stopped ≡ None → IfSome unused (λ u. names u ≡ told)
+found_labels None names found told stopped are same none = tt
+found_labels (Some u) names found told stopped are same none = are ∙ same none
 
 -- where the run stopped before, no text goes out
 any_text : (text other : List ℕ) (stopped cause : Option Cause) (a b : Seen) → (stopped ≡ None → text ≡ other) → SumsUp text stopped a b cause → SumsUp other stopped a b cause
@@ -59,11 +50,15 @@ lines_told (Ok t) text None items lines_of notes some lines known = absurd (true
 lines_told (Ok t) text (Some n) items lines_of notes some lines known = lines ∙ ap lines_of known
 
 -- and so have the lines beside the report, where nothing stopped it
-pub told_labels : {R S O F V N : Type 0} (input : R → Input S O F) (unbegun : R → List (List ℕ)) (unused : Option V) (items : V → List N) (name : N → List ℕ) (told : List N) (stopped cause : Option Cause) (endings : List (ℕ × Ending)) (words : Bool)
-    (sources : List (SourceOf R)) (given : List (ℕ × Ending)) (notables : List (Option Notable)) (labels : List (List ℕ))
-    → (stopped ≡ None → IfSome unused (λ u. map name (items u) ≡ labels_told None endings (noted_of_all input unbegun words sources given notables) labels))
+pub told_labels : {R S O F V N : Type 0} (input : R → Input S O F) (came : R → List ℕ) (unused : Option V) (items : V → List N) (name : N → List ℕ) (told : List N) (stopped cause : Option Cause) (terms : Terms) (endings : List (ℕ × Ending)) (words : Bool)
+    (sources : List (SourceOf R)) (given : List (ℕ × Ending)) (notables : List (Option Notable))
+    → (stopped ≡ None → IfSome unused (λ u. map name (items u) ≡ labels_told terms None endings (noted_of_all input came words sources given notables)))
     → (cause ≡ None → IsSome unused) → (cause ≡ None → stopped ≡ None) → (cause ≡ None → IfSome unused (λ u. told ≡ items u)) → IfSome cause (λ why. told ≡ [])
-    → map name told ≡ labels_told cause endings (noted_of_all input unbegun words sources given notables) labels
-told_labels input unbegun unused items name told stopped (Some why) endings words sources given notables labels found known whole are none = ap (map name) none
-told_labels input unbegun None items name told stopped None endings words sources given notables labels found known whole are none = absurd (true≢false (sym (known refl)))
-told_labels input unbegun (Some u) items name told stopped None endings words sources given notables labels found known whole are none = ap (map name) (are refl) ∙ found (whole refl)
+    → map name told ≡ labels_told terms cause endings (noted_of_all input came words sources given notables)
+told_labels input came unused items name told stopped (Some why) terms endings words sources given notables found known whole are none = ap (map name) none ∙ sym (stopped_tells terms.stop)
+  where
+    stopped_tells : (b : Bool) → (if not b && false then filter (λ label. not (begins_in_one (noted_of_all input came words sources given notables) label)) terms.rules.labels.labels else []) ≡ []
+    stopped_tells true = refl
+    stopped_tells false = refl
+told_labels input came None items name told stopped None terms endings words sources given notables found known whole are none = absurd (true≢false (sym (known refl)))
+told_labels input came (Some u) items name told stopped None terms endings words sources given notables found known whole are none = ap (map name) (are refl) ∙ found (whole refl)

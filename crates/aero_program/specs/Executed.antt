@@ -7,7 +7,7 @@ use Rattle.aero_model.specs.declared.verdict.Ending.{Ending}
 use Rattle.aero_model.specs.CallCounts.{Seen}
 use Rattle.aero_model.specs.Exempt.{Listed}
 use Rattle.aero_intake.specs.PlanTerms.{options_with}
-use Rattle.aero_intake.specs.Source.{Origin, Sight, Stream, origin_in}
+use Rattle.aero_intake.specs.Source.{Sight, Stream, place_in}
 use Rattle.aero_report.specs.Forms.{summary_line_in}
 use Rattle.aero_model.specs.Terms.{Terms, on, ruled}
 use Rattle.aero_telling.specs.declared.cause.Cause.{Cause}
@@ -103,17 +103,13 @@ Ends text (Err why) told told_after status =
 abbrev pub terms_asked : Config → Listed → Limits → Terms
 terms_asked config listed limits = record (on (ruled limits listed config.end) config.order config.explain) { stop = config.stop }
 
--- of which of the labels that are listed it is told that no block begins with them, after a run that stopped for this cause, or for none
-abbrev pub unused_of : Listed → Option Cause → List (ℕ × Ending) → List Noted → List (List ℕ)
-unused_of listed cause endings noted = labels_told cause endings noted listed.labels
-
 -- what is seen of a stream that is read as this reader was
 abbrev pub seen_in : Sight → Seen
 seen_in sight = record { bytes = sight.bytes; faults = sight.faults; ends = sight.ends }
 
 -- where the source reads standard input, that is left with the bytes that the source has left, and has failed and found the end as often as it
 abbrev pub IsLeftOf : Sighted → (left : Option Seen) → Type 0
-IsLeftOf s left = (o : Origin) → origin_in s.reader ≡ Some o → o.place ≡ Stream → ∥ left ≡ Some (seen_in s.reader) ∥₁
+IsLeftOf s left = place_in s.reader ≡ Some Stream → ∥ left ≡ Some (seen_in s.reader) ∥₁
 
 -- Standard input, as it is left: where it was the source, its stream has the bytes that the source has left, and has failed and found the end as often as the source. Where files were named nothing was read of it, and a list in it was read to its end.
 abbrev pub IsLeftBy : Sources → (given : Option (List ℕ)) → (judged : List Sighted) → (left : Option Seen) → Type 0
@@ -121,7 +117,7 @@ IsLeftBy (sources.Standard name) given judged left = (s : Sighted) → slice_get
 IsLeftBy (sources.Files words) given judged left = IsUntouched given left
 IsLeftBy (sources.Listed path) given judged left = IsLeftByList (string_bytes path) given left
 
--- What the configuration asks for was judged: its sources, under the limits that it asks for, blocks that its labels leave out as no transactions. The report in its form went out on standard output, as every run's does, and a flush and the ends of the run decide. The notes on the sources and the labels with which no block begins stand in the summary, and their lines go out on standard error.
+-- What the configuration asks for was judged: its sources, under the limits that it asks for, blocks that its labels leave out as no transactions. The report in its form went out on standard output, as every run's does, and a flush and the ends of the run decide. The notes on the sources and the listed labels with which no block begins stand in the summary, and their lines go out on standard error.
 pub record WasJudged (known : List ℕ → Option (List ℕ)) (can_fail : List ℕ → Type 0) (holds : List ℕ → Stamp → Option (List ℕ) → Type 0) (config : Config) (given : Option (List ℕ)) (left : Option Seen) (shown shown_after : Shown) (told told_after : Seen) (status : ℕ) : Type 0 where
   pub listed : Listed
   pub are_listed : AreListed known config listed
@@ -145,12 +141,12 @@ pub record WasJudged (known : List ℕ → Option (List ℕ)) (can_fail : List �
   pub on_noted : map (λ r. r.noted) remarks ≡ noted
   pub are_shown : AreShown holds remarks
   pub ran : WasRunTo (terms_asked config listed limits) (form_on config.terminals config.form)
-      (summary_line_in (form_on config.terminals config.form) (options_with (terms_asked config listed limits) (unused_of listed None endings noted) (notes_on remarks)))
-      (source_sightings known listed.labels config.files given names) sources shown.writer between.writer endings notables counts cause
+      (summary_line_in (form_on config.terminals config.form) (options_with (terms_asked config listed limits) (labels_told (terms_asked config listed limits) None endings noted) (notes_on remarks)))
+      (source_sightings known config.files given names) sources shown.writer between.writer endings notables counts cause
   pub same : between.unflushed ≡ shown.unflushed
   pub fault : Option ErrorKind
   pub flushed : WasFlushed between shown_after fault
-  pub ends : Ends (note_texts config.terminals.errors (notes_on remarks) ++ label_lines config.terminals.errors (unused_of listed cause endings noted)) (end_checked config.fail_unchecked notables (end_of_run config.fail_open cause counts fault)) told told_after status
+  pub ends : Ends (note_texts config.terminals.errors (notes_on remarks) ++ label_lines config.terminals.errors (labels_told (terms_asked config listed limits) cause endings noted)) (end_checked config.fail_unchecked notables (end_of_run config.fail_open cause counts fault)) told told_after status
 
 -- how it is told that there are no sources, since the list with their names, at this path, can't be had
 abbrev pub TellsUnlisted : (on_terminal : Bool) → (path : List ℕ) → Unlisted → Seen → Seen → ℕ → Type 0

@@ -1,27 +1,23 @@
--- What an input notes of the labels of a list.
-use Rattle.std.specs.Prelude.{ℕ, List, [], ◌++◌, take, Option, None, Some, Result, Ok, Err, ⊤}
-use Rattle.aero_program.specs.declared.input.Input.{Input}
-use Rattle.aero_watch.specs.Watches.{Watching, HasSeen, settled}
+-- The listed labels that are told, by the flags that a run has set.
+use Rattle.std.specs.Prelude.{ℕ, Bool, false, not, if◌then◌else◌, List, [], bytes_eq, Option, Some, None}
+use Rattle.std.specs.List.{filter, position}
+use Rattle.aero_model.specs.Terms.{Terms}
+use Rattle.aero_intake.specs.Begun.{noted_at}
+use Rattle.aero_intake.specs.declared.begun.Begun.{Begun}
 
--- the labels that a watch has, if there is one
-abbrev pub watched_in : Option Watching → List (List ℕ)
-watched_in None = []
-watched_in (Some w) = w.labels
+abbrev pub flag_at : List Bool → Option ℕ → Bool
+flag_at flags None = false
+flag_at flags (Some place) = noted_at flags place
 
--- a watch to which this text came, if there is one
-abbrev pub HasWatched : Option Watching → List ℕ → Type 0
-HasWatched None came = ⊤
-HasWatched (Some w) came = HasSeen w came
+-- whether the flag at the label's place is set: at the first one, in a list that repeats the label
+abbrev pub is_flagged : (labels : List (List ℕ)) → (flags : List Bool) → List ℕ → Bool
+is_flagged labels flags label = flag_at flags (position (bytes_eq label) labels)
 
--- the text that came, after one more read with this result into this buffer
-abbrev pub came_after : {E : Type 0} → List ℕ → Result ℕ E → List ℕ → List ℕ
-came_after came (Ok n) buffer = came ++ take n buffer
-came_after came (Err error) buffer = came
+-- the labels whose flags aren't set, if there are flags
+abbrev pub without_flag : List (List ℕ) → Option Begun → List (List ℕ)
+without_flag labels None = []
+without_flag labels (Some begun) = filter (λ label. not (is_flagged labels begun.flags.items label)) labels
 
--- the labels of a watch with which no line that came begins a block
-abbrev pub missing_in : Option Watching → List (List ℕ)
-missing_in None = []
-missing_in (Some w) = settled w
-
-abbrev pub missing_of : {S O F : Type 0} → Input S O F → List (List ℕ)
-missing_of input = missing_in input.watch
+-- the same of the labels that the terms list; none where sources are read no further than they must be
+abbrev pub unflagged : Terms → Option Begun → List (List ℕ)
+unflagged terms begun = if terms.stop then [] else without_flag terms.rules.labels.labels begun

@@ -18,7 +18,6 @@ use Rattle.aero_program.specs.Executed.{WasJudged, terms_asked}
 use Rattle.aero_program.specs.Notes.{Noted}
 use Rattle.aero_program.specs.Sightings.{sightings}
 use Rattle.aero_program.specs.Streams.{Shown}
-use Rattle.aero_watch.specs.Watches.{unbegun}
 
 -- these bytes are a front of the text, and all of it where they ended as a whole source does
 pub record IsFrontOf (text bytes : List ℕ) (ending : Ending) : Type 0 where
@@ -35,13 +34,13 @@ KnownBytesAreJudged =
     → slice_get ran.founds place ≡ Some found → (made found.name).bytes ≡ Some text → IsFrontOf text found.bytes found.ending
 
 -- What was found of a source is what the definitions say of this text, read to its end, and what was noted of it is of the text too, with no reason why a read failed.
-pub record IsOfText (terms : Terms) (labels : List (List ℕ)) (text : List ℕ) (found : Found) (n : Noted) : Type 0 where
+pub record IsOfText (terms : Terms) (text : List ℕ) (found : Found) (n : Noted) : Type 0 where
   pub bytes : found.bytes ≡ text
   pub ending : found.ending ≡ Whole
   pub finding : ∥ IsFinding text Whole terms found.finding ∥₁
   pub start : n.start ≡ take 3 text
   pub reason : n.reason ≡ None
-  pub missing : n.missing ≡ unbegun labels text
+  pub came : n.came ≡ text
 
 -- What was found of a source that was read no further, as the terms ask for, is what the definitions say of this text to its end.
 pub record IsOfFront (terms : Terms) (text : List ℕ) (found : Found) : Type 0 where
@@ -57,4 +56,4 @@ KnownFilesAreJudged can_fail holds =
     (was : WasJudged known can_fail holds config given left shown shown_after told told_after status) (place : ℕ) (found : Found) (n : Noted) (text : List ℕ)
     → are_words config.files ≡ true → slice_get was.ran.founds place ≡ Some found → slice_get was.noted place ≡ Some n
     → known found.name ≡ Some text → (can_fail found.name → ⊥) → length text ≤ was.limits.bytes
-    → ∥ IsOfText (terms_asked config was.listed was.limits) was.listed.labels text found n ⊎ IsOfFront (terms_asked config was.listed was.limits) text found ∥₁
+    → ∥ IsOfText (terms_asked config was.listed was.limits) text found n ⊎ IsOfFront (terms_asked config was.listed was.limits) text found ∥₁

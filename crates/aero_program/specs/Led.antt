@@ -1,13 +1,11 @@
 -- What an input has noted since it was made.
 use Rattle.std.specs.Prelude.{◌≡◌, ◌<◌, ℕ, true, List, take, is_some, IfSome, Option, Some, None, ⊤}
-use Rattle.aero_intake.specs.Source.{Origin, Place, Stream, File, Nowhere, Sight}
+use Rattle.aero_intake.specs.Source.{Place, Stream, File, Nowhere, Sight}
 use Rattle.aero_program.specs.declared.input.Input.{Input}
 use Rattle.aero_program.specs.declared.reason.Reason.{Reason}
 use Rattle.aero_program.specs.declared.reason.Reason.TheVariants.{NotUtf8}
 use Rattle.aero_program.specs.declared.stamp.Stamp.{Stamp}
 use Rattle.aero_program.specs.Inputs.{Standing, Standard, Unopened, Reading, Ended, Failed, Closed, bytes_left, closed_in, open_in, opened_of, reason_of, standing_of, start_of}
-use Rattle.aero_program.specs.Labels.{HasWatched, watched_in}
-use Rattle.aero_watch.specs.Watches.{unbegun}
 
 -- where an input reads that was just made, and stands so
 abbrev pub place_of : Standing → Place
@@ -90,18 +88,8 @@ pub record IsLed {S O F : Type 0} (stdin : S → Option (List ℕ)) (known : O �
   pub may : 0 < faults → MayFailAt can_fail (place_of (standing_of stdin known file first))
   pub rightly : HasRightlyFailed can_fail (place_of (standing_of stdin known file first)) (standing_of stdin known file now)
   pub stream : StaysStream (standing_of stdin known file first) (standing_of stdin known file now) faults ends
-  pub labels : watched_in now.watch ≡ watched_in first.watch
-  pub seen : HasWatched now.watch came
   pub opened : IsOpenedAt holds (place_of (standing_of stdin known file first)) (opened_of now)
   pub still : IsStill (standing_of stdin known file first) (standing_of stdin known file now)
-
--- what an input was made for, by how it was at first
-abbrev pub origin_of : {S O F : Type 0} → (stdin : S → Option (List ℕ)) → (known : O → List ℕ → Option (List ℕ)) → (file : F → Option (List ℕ)) → Input S O F → Origin
-origin_of stdin known file first = record { place = place_of (standing_of stdin known file first); labels = watched_in first.watch }
-
--- the labels that an input which was this at first looks for, and with which no line of these bytes begins a block
-abbrev pub unbegun_in : {S O F : Type 0} → (first : Input S O F) → (given : List ℕ) → List (List ℕ)
-unbegun_in first given = unbegun (watched_in first.watch) given
 
 -- what contracts see of an input that was this at first and gave these bytes, and so many of whose reads failed and found the end
 abbrev pub sight_at : {S O F : Type 0} → (stdin : S → Option (List ℕ)) → (known : O → List ℕ → Option (List ℕ)) → (file : F → Option (List ℕ)) → (first now : Input S O F) → (given : List ℕ) → (faults ends : ℕ) → Sight
@@ -109,7 +97,7 @@ sight_at stdin known file first now given faults ends = record {
   bytes = bytes_left (standing_of stdin known file now);
   faults = faults;
   ends = ends;
-  trail = Some (record { origin = origin_of stdin known file first; given = given });
+  trail = Some (record { place = place_of (standing_of stdin known file first); given = given });
   is_open = open_in (standing_of stdin known file now);
   closed = closed_in (standing_of stdin known file now);
 }

@@ -1,6 +1,9 @@
 -- What is told of the sources beside their lines, and the lines of it on standard error, each with the byte 10 that ends it.
-use Rattle.std.specs.Prelude.{◌≡◌, ◌==◌, ◌&&◌, ℕ, ◌-◌, Bool, true, false, List, [], ◌∷◌, ◌++◌, length, Option, None, Some, codes, decimal, bytes_eq, flat_map, is_some, map, take, ⊤, ◌<◌, if◌then◌else◌, slice_get}
+use Rattle.std.specs.Prelude.{◌≡◌, ◌==◌, ◌&&◌, not, ℕ, ◌-◌, Bool, true, false, List, [], ◌∷◌, ◌++◌, length, Option, None, Some, codes, decimal, bytes_eq, flat_map, is_some, map, take, ⊤, ◌<◌, if◌then◌else◌, slice_get}
 use Rattle.std.specs.List.{filter, list_all, list_any}
+use Rattle.aero_grammar.specs.Reading.{malformed_line, reading_of}
+use Rattle.aero_intake.specs.Begun.{begins}
+use Rattle.aero_model.specs.Terms.{Rules, Terms}
 use Rattle.aero_model.specs.declared.verdict.Ending.{Ending}
 use Rattle.aero_model.specs.declared.verdict.Ending.TheVariants as endings
 use Rattle.aero_telling.specs.declared.cause.Cause.{Cause}
@@ -25,9 +28,8 @@ use Rattle.aero_program.specs.Led.{IsOpenedAt, MayFailAt, reason_at}
 use Rattle.aero_program.specs.Looks.{ShowsAs}
 use Rattle.aero_program.specs.Reasons.{reason_words}
 use Rattle.aero_program.specs.Starts.{byte_order_mark, gzip_mark}
-use Rattle.aero_watch.specs.Watches.{unbegun}
 
--- what was noted of a source: its name, whether that is a FILE word, the first three bytes that came, why the first read that failed did, whether it had more bytes than a source may have that isn't long, whether there was no block to check in it, its faulty line, the stamp that its file had when it was opened, and the labels that it was watched for and with which no line that came begins a block
+-- what was noted of a source: its name, whether that is a FILE word, the first three bytes that came, why the first read that failed did, whether it had more bytes than a source may have that isn't long, whether there was no block to check in it, its faulty line, the stamp that its file had when it was opened, and all bytes that came
 pub record Noted : Type 0 where
   pub name : List ℕ
   pub is_word : Bool
@@ -37,7 +39,7 @@ pub record Noted : Type 0 where
   pub unchecked : Bool
   pub fault : Option FaultyLine
   pub opened : Option Stamp
-  pub missing : List (List ℕ)
+  pub came : List ℕ
 
 -- whether a source whose reading ended so, after so many bytes, was too large; one that the run didn't come to was not
 abbrev pub was_too_large : Option (ℕ × Ending) → Bool
@@ -61,8 +63,8 @@ is_unchecked None = false
 is_unchecked (Some (Faulty line)) = false
 is_unchecked (Some Unchecked) = true
 
-abbrev pub noted_of : {R S O F : Type 0} → (input : R → Input S O F) → (unused : R → List (List ℕ)) → (are_words : Bool) → SourceOf R → (too_large : Bool) → Option Notable → Noted
-noted_of input unused are_words source too_large notable = record {
+abbrev pub noted_of : {R S O F : Type 0} → (input : R → Input S O F) → (came : R → List ℕ) → (are_words : Bool) → SourceOf R → (too_large : Bool) → Option Notable → Noted
+noted_of input came are_words source too_large notable = record {
   name = source.name.items;
   is_word = are_words;
   start = start_of (input source.reader);
@@ -71,16 +73,16 @@ noted_of input unused are_words source too_large notable = record {
   unchecked = is_unchecked notable;
   fault = faulty_in notable;
   opened = opened_of (input source.reader);
-  missing = unused source.reader;
+  came = came source.reader;
 }
 
 -- what was noted of the sources, whose names are FILE words, or none is, whose readings ended so, and of which this was noted beside their lines, as far as the run came
-abbrev pub noted_of_all : {R S O F : Type 0} → (input : R → Input S O F) → (unused : R → List (List ℕ)) → (are_words : Bool) → List (SourceOf R) → List (ℕ × Ending) → List (Option Notable) → List Noted
-noted_of_all input unused are_words [] endings notables = []
-noted_of_all input unused are_words (source ∷ more) [] [] = noted_of input unused are_words source false None ∷ noted_of_all input unused are_words more [] []
-noted_of_all input unused are_words (source ∷ more) [] (notable ∷ notables) = noted_of input unused are_words source false notable ∷ noted_of_all input unused are_words more [] notables
-noted_of_all input unused are_words (source ∷ more) (ending ∷ rest) [] = noted_of input unused are_words source (was_too_large (Some ending)) None ∷ noted_of_all input unused are_words more rest []
-noted_of_all input unused are_words (source ∷ more) (ending ∷ rest) (notable ∷ notables) = noted_of input unused are_words source (was_too_large (Some ending)) notable ∷ noted_of_all input unused are_words more rest notables
+abbrev pub noted_of_all : {R S O F : Type 0} → (input : R → Input S O F) → (came : R → List ℕ) → (are_words : Bool) → List (SourceOf R) → List (ℕ × Ending) → List (Option Notable) → List Noted
+noted_of_all input came are_words [] endings notables = []
+noted_of_all input came are_words (source ∷ more) [] [] = noted_of input came are_words source false None ∷ noted_of_all input came are_words more [] []
+noted_of_all input came are_words (source ∷ more) [] (notable ∷ notables) = noted_of input came are_words source false notable ∷ noted_of_all input came are_words more [] notables
+noted_of_all input came are_words (source ∷ more) (ending ∷ rest) [] = noted_of input came are_words source (was_too_large (Some ending)) None ∷ noted_of_all input came are_words more rest []
+noted_of_all input came are_words (source ∷ more) (ending ∷ rest) (notable ∷ notables) = noted_of input came are_words source (was_too_large (Some ending)) notable ∷ noted_of_all input came are_words more rest notables
 
 -- the sources were noted as too large whose readings ended so, and all as FILE words, or none
 abbrev pub AreNoted : (are_words : Bool) → List (ℕ × Ending) → List Noted → Type 0
@@ -88,14 +90,14 @@ AreNoted are_words endings noted =
     (at : ℕ) (n : Noted) → slice_get noted at ≡ Some n
     → (n.too_large ≡ was_too_large (slice_get endings at)) × (n.is_word ≡ are_words)
 
--- What was noted of a source is of the bytes that its reader gave, and of its reads, of which so many failed, and its stamp is one of a file that was opened at its path: its first bytes, a reason exactly where a read failed or the name is no path, and the labels that were looked for with which no line of these bytes begins a block. A read failed only where it may. `can_fail` says of which paths an open may fail, or a read of the file that it gave, and `holds` which bytes a file may have that was opened at a path and had a stamp.
+-- What was noted of a source is of the bytes that its reader gave, and of its reads, of which so many failed, and its stamp is one of a file that was opened at its path: its first bytes, a reason exactly where a read failed or the name is no path, and all of these bytes. A read failed only where it may. `can_fail` says of which paths an open may fail, or a read of the file that it gave, and `holds` which bytes a file may have that was opened at a path and had a stamp.
 pub record IsNotedFrom (can_fail : List ℕ → Type 0) (holds : List ℕ → Stamp → Option (List ℕ) → Type 0) (n : Noted) (faults : ℕ) (t : Trail) : Type 0 where
   pub start : n.start ≡ take 3 t.given
-  pub reason : faults ≡ 0 → n.reason ≡ reason_at t.origin.place
+  pub reason : faults ≡ 0 → n.reason ≡ reason_at t.place
   pub failed : 0 < faults → is_some n.reason ≡ true
-  pub may : 0 < faults → MayFailAt can_fail t.origin.place
-  pub opened : IsOpenedAt holds t.origin.place n.opened
-  pub missing : n.missing ≡ unbegun t.origin.labels t.given
+  pub may : 0 < faults → MayFailAt can_fail t.place
+  pub opened : IsOpenedAt holds t.place n.opened
+  pub came : n.came ≡ t.given
 
 -- the same, by what a reader says of itself
 abbrev pub IsNotedBy : (can_fail : List ℕ → Type 0) → (holds : List ℕ → Stamp → Option (List ℕ) → Type 0) → Noted → (faults : ℕ) → Option Trail → Type 0
@@ -212,10 +214,6 @@ note_text on_terminal note =
 abbrev pub note_texts : (on_terminal : Bool) → List Note → List ℕ
 note_texts on_terminal notes = flat_map (note_text on_terminal) notes
 
--- the labels that each of these lists of missing labels has
-abbrev pub missing_in_each : List (List (List ℕ)) → List (List ℕ) → List (List ℕ)
-missing_in_each lists labels = filter (λ label. list_all (λ missing. list_any (bytes_eq label) missing) lists) labels
-
 abbrev pub is_whole : Ending → Bool
 is_whole endings.Whole = true
 is_whole endings.Broken = false
@@ -227,9 +225,20 @@ abbrev pub all_read : Option Cause → List (ℕ × Ending) → Bool
 all_read None endings = list_all (λ ending. is_whole ending.1) endings
 all_read (Some cause) endings = false
 
--- The labels with which no block of any source begins, where each was read to its end. Else none are told: a block may begin with one behind what came.
-abbrev pub labels_told : Option Cause → List (ℕ × Ending) → List Noted → List (List ℕ) → List (List ℕ)
-labels_told cause endings noted labels = if all_read cause endings then missing_in_each (map (λ n. n.missing) noted) labels else []
+-- whether no line of what came of the source is malformed, or one too many
+abbrev pub is_sound : Rules → Noted → Bool
+is_sound rules n = not (is_some (malformed_line rules.limits.lines (reading_of n.came)))
+
+-- whether a block of what came of one of the sources begins with the label
+abbrev pub begins_in_one : List Noted → List ℕ → Bool
+begins_in_one noted label = list_any (λ n. begins label (reading_of n.came)) noted
+
+-- The listed labels with which no block of any source begins, where each was read to its end, and no line of it is malformed. Else none are told: a block may begin with one behind what was read. Where sources are read no further than they must be, none are told either.
+abbrev pub labels_told : Terms → Option Cause → List (ℕ × Ending) → List Noted → List (List ℕ)
+labels_told terms cause endings noted =
+    if not terms.stop && (all_read cause endings && list_all (is_sound terms.rules) noted)
+    then filter (λ label. not (begins_in_one noted label)) terms.rules.labels.labels
+    else []
 
 abbrev pub label_line : (on_terminal : Bool) → List ℕ → List ℕ
 label_line on_terminal label = codes "aerodrome: no block begins with begin(" ++ said_on on_terminal label ++ codes ")" ++ 10 ∷ []

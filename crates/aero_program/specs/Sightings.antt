@@ -19,30 +19,30 @@ AreNames known (sources.Standard name) given names = names ≡ unwrap_or (option
 AreNames known (sources.Files words) given names = names ≡ map string_bytes words.items
 AreNames known (sources.Listed path) given names = (list : List ℕ) × IsWhole (list_given known (string_bytes path) given) list × (names ≡ names_in list)
 
--- what contracts see of a reader that was just made, and of which nothing is open: where it reads, the labels that it looks for, and the bytes that it has, where they are known
-abbrev pub made_at : Place → (labels : List (List ℕ)) → Option (List ℕ) → Sight
-made_at place labels bytes = record { bytes = bytes; faults = 0; ends = 0; trail = Some (record { origin = record { place = place; labels = labels }; given = [] }); is_open = false; closed = false }
+-- what contracts see of a reader that was just made, and of which nothing is open: where it reads, and the bytes that it has, where they are known
+abbrev pub made_at : Place → Option (List ℕ) → Sight
+made_at place bytes = record { bytes = bytes; faults = 0; ends = 0; trail = Some (record { place = place; given = [] }); is_open = false; closed = false }
 
 -- the same of the file at a path
-abbrev pub file_made : (known : List ℕ → Option (List ℕ)) → (labels : List (List ℕ)) → (path : List ℕ) → Sight
-file_made known labels path = made_at (File path) labels (known path)
+abbrev pub file_made : (known : List ℕ → Option (List ℕ)) → (path : List ℕ) → Sight
+file_made known path = made_at (File path) (known path)
 
 -- the same of the file of a name that stands in a list: none can be opened whose name isn't UTF-8
-abbrev pub listed_made : (known : List ℕ → Option (List ℕ)) → (labels : List (List ℕ)) → (name : List ℕ) → Sight
-listed_made known labels name = if is_utf8 name then file_made known labels name else made_at Nowhere labels None
+abbrev pub listed_made : (known : List ℕ → Option (List ℕ)) → (name : List ℕ) → Sight
+listed_made known name = if is_utf8 name then file_made known name else made_at Nowhere None
 
 -- the same of the source of this name
-abbrev pub source_made : (known : List ℕ → Option (List ℕ)) → (labels : List (List ℕ)) → Sources → (given : Option (List ℕ)) → (name : List ℕ) → Sight
-source_made known labels (sources.Standard word) given name = made_at Stream labels given
-source_made known labels (sources.Files words) given name = file_made known labels name
-source_made known labels (sources.Listed path) given name = listed_made known labels name
+abbrev pub source_made : (known : List ℕ → Option (List ℕ)) → Sources → (given : Option (List ℕ)) → (name : List ℕ) → Sight
+source_made known (sources.Standard word) given name = made_at Stream given
+source_made known (sources.Files words) given name = file_made known name
+source_made known (sources.Listed path) given name = listed_made known name
 
 -- sources of these names, each with the reader that was made for its name
 abbrev pub sightings : (made : List ℕ → Sight) → List (List ℕ) → List Sighted
 sightings made names = map (λ name. record { name = name; reader = made name }) names
 
-abbrev pub source_sightings : (known : List ℕ → Option (List ℕ)) → (labels : List (List ℕ)) → Sources → (given : Option (List ℕ)) → List (List ℕ) → List Sighted
-source_sightings known labels sources given names = sightings (source_made known labels sources given) names
+abbrev pub source_sightings : (known : List ℕ → Option (List ℕ)) → Sources → (given : Option (List ℕ)) → List (List ℕ) → List Sighted
+source_sightings known sources given names = sightings (source_made known sources given) names
 
 -- the file of a name that stands in a list isn't opened yet, and can't be where the name isn't UTF-8
 abbrev pub listed_standing : (known : List ℕ → Option (List ℕ)) → List ℕ → Standing

@@ -2,6 +2,7 @@
 ghost use Rattle.std.specs.Prelude.{◌≡◌, ◌⊎◌, ◌≤◌, ◌++◌, ℕ, List, [], false, true, if◌then◌else◌, map, option_map, slice_get, unwrap_or, vec_len, None, Some, IfOk, IfSome, IsSome, OnOk, OnErr};
 ghost use Rattle.aero_model.specs.CallCounts.{Seen, seen_by};
 ghost use Rattle.aero_telling.specs.Founds.{Sighted, sighted, Took, WasTold};
+ghost use Rattle.aero_telling.specs.Labels.{AreLabelsOf};
 ghost use Rattle.aero_telling.specs.Telling.{SumsUp};
 ghost use Rattle.aero_intake.specs.PlanTerms.{options_with, terms_of};
 ghost use Rattle.aero_program.specs.Executed.{Executes, Ends, IsLeftOf, Fails, Helps, Judges, Stops, TellsNoWords, TellsUnlabelled, TellsUnlisted, TellsWord};
@@ -13,7 +14,7 @@ ghost use Rattle.aero_program.specs.LabelFiles.{AreListed};
 ghost use Rattle.aero_program.specs.Notes.{AreNotes, label_lines, note_at, note_text, note_texts, noted_of_all};
 ghost use Rattle.aero_program.specs.Retries.{seen_within, tried_by};
 ghost use Rattle.aero_program.specs.Streams.{IsTold, WasCut, shown_by};
-ghost use Rattle.aero_program.specs.Traces.{input_of, sight_of, unused_in};
+ghost use Rattle.aero_program.specs.Traces.{came_in, input_of, sight_of};
 ghost use Rattle.aero_report.specs.Asked.{note_of};
 ghost use Rattle.aero_report.specs.Forms.{summary_line_in};
 
@@ -22,7 +23,7 @@ use crate::command::{Config, Refused, Stop};
 use crate::failure::{Failure, odd_word_line};
 use crate::files::Opener;
 use crate::label_files::{LabelFault, Unlabelled, label_set};
-use crate::labels::{all_read, lines_on, unused_labels};
+use crate::labels::{lines_on, unused_labels};
 use crate::lasting::flush_fault;
 use crate::listing::Unlisted;
 use crate::looker::Looker;
@@ -195,7 +196,7 @@ where
     let Ok((plan, asked)) = config.into_plan(alloc, set) else {
         return (fail(Failure::Memory, errors), None);
     };
-    let gathered = match sources_of(alloc, files, stdin, &asked, plan.terms.shared_except()) {
+    let gathered = match sources_of(alloc, files, stdin, &asked) {
         Ok(gathered) => gathered,
         Err(Ungathered { why, stdin }) => {
             let status = tell_unlisted(alloc, asked.list_path(), why, on_terminal, errors);
@@ -210,11 +211,7 @@ where
     files.begin(extent.work);
     let in_lanes = are_worth_threads(extent);
     let (report, sources) = run_all(host, in_lanes, sources, &mut output.writer, &plan);
-    let labels = told_of(
-        plan.terms.except().labels(),
-        all_read(report.cause, &report.told.endings),
-    );
-    let unused = unused_labels(alloc, &sources, labels);
+    let unused = unused_labels(alloc, &plan.terms, &report.told.begun);
     let looker = Looker::new(alloc, files);
     let notes = all_notes(&looker, &sources, &report, long, asked.are_words());
     let beside = Asides { unused, notes };
@@ -340,7 +337,7 @@ fn all_notes<S: Read + Drop, F: Opener + Drop, G: Opener>(
     are_words: bool,
 ) -> Option<Vec<Note>>
     ensures { IfSome result (λ notes.
-        AreNotes G.holds (noted_of_all input_of unused_in are_words sources.now
+        AreNotes G.holds (noted_of_all input_of came_in are_words sources.now
         (if long then [] else report.now.told.endings.items) report.now.told.notables.items)
         (map note_of notes.items)) }
 {
@@ -372,13 +369,6 @@ fn all_lines(
     Ok(text)
 }
 
-// The labels of which it is told whether they begin no block: of all, or of none.
-fn told_of(labels: &[Name], all_read: bool) -> &[Name]
-    ensures { result.now ≡ (if all_read then labels.now else []) }
-{
-    if all_read { labels } else { &[] }
-}
-
 // Writes the lines of the sources: by a thread for each, or in turn. With one worker they are read in turn, because it reads
 // ahead while the calling thread judges.
 fn run_all<R: Followed + Drop + Send, W: Write, T: Threads + Wait + Copy + Send + Sync + 'static>(
@@ -393,6 +383,8 @@ fn run_all<R: Followed + Drop + Send, W: Write, T: Threads + Wait + Copy + Send 
         (map (sighted R.sight) result.1.items)
         (seen_by W.contents writer.old) (seen_by W.contents writer.new) result.0.told.endings.items
         result.0.told.notables.items result.0.told.counts result.0.cause }
+    ensures labels { AreLabelsOf (terms_of plan.now) (map (sighted R.sight) sources.items)
+        (map (sighted R.sight) result.1.items) result.0.told.endings.items result.0.told.begun }
 {
     if in_lanes && plan.workers > 1 {
         return run_in_lanes(host.rt, host.alloc, sources, writer, plan);

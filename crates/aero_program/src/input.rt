@@ -1,18 +1,16 @@
 //! Standard input or a file, as a reader that opens its file at the first read, and notes which file that
-//! was, how its bytes begin, why a read failed, and, where it is asked for, which labels begin no block in them.
-ghost use Rattle.std.specs.Prelude.{◌≡◌, ◌≢◌, ◌++◌, ℕ, List, IfErr, IfOk, IfSome};
+//! was, how its bytes begin, and why a read failed.
+ghost use Rattle.std.specs.Prelude.{◌≡◌, ◌≢◌, ℕ, List, IfErr, IfOk, IfSome};
 ghost use Rattle.std.specs.Io.{ReadsAtMost};
 ghost use Rattle.std.specs.Io.KnownBytes.{Keeps, ReadConsumes};
 ghost use Rattle.std.specs.IoError.{error_kind};
 ghost use Rattle.std.specs.declared.io.ErrorKind.TheVariants.{Interrupted};
-ghost use Rattle.aero_program.specs.Labels.{HasWatched, watched_in};
 
 use crate::files::{Opened, Opener};
 use crate::reason::Reason;
 use crate::retrying::Retrying;
 use crate::stamp::Stamp;
 use crate::start::Start;
-use aero_watch::Watch;
 use std::alloc::{AllocError, Global};
 use std::io::{ErrorKind, Read};
 use std::snapshot::Snapshot;
@@ -30,7 +28,6 @@ pub struct Input<S, O: Opener> {
     stage: Stage<S, O>,
     start: Start,
     reason: Option<Reason>,
-    watch: Option<Watch>,
 }
 
 // How far an input has come. A file that was opened had this stamp then, if it had one. Contracts alone see the path of one
@@ -53,11 +50,8 @@ enum Stage<S, O: Opener> {
 
 impl<S: Read + Drop, O: Opener + Drop> Input<S, O> {
     ghost use Rattle.std.specs.Prelude.{◌≡◌, [], Some, None, IfOk, bytes_eq, option_map, take};
-    ghost use Rattle.std.specs.List.{list_any};
     ghost use Rattle.aero_program.specs.Inputs.{closed_in, opened_of, shut, standing_of, start_of, reason_of, unopened, unread, IsStandardOf, Standard, Failed};
     ghost use Rattle.aero_program.specs.Retries.{seen_within};
-    ghost use Rattle.aero_program.specs.Labels.{HasWatched, missing_of, watched_in};
-    ghost use Rattle.aero_watch.specs.Watches.{unbegun};
     ghost use Rattle.aero_program.specs.declared.reason.Reason.TheVariants.{NotUtf8};
     ghost use Rattle.aero_program.specs.Starts.{byte_order_mark, gzip_mark};
 
@@ -73,7 +67,6 @@ impl<S: Read + Drop, O: Opener + Drop> Input<S, O> {
             stage: Stage::Standard(Retrying::new(stdin)),
             start: Start::Nothing,
             reason: None,
-            watch: None,
         }
     }
 
@@ -91,7 +84,6 @@ impl<S: Read + Drop, O: Opener + Drop> Input<S, O> {
             stage: Stage::Unopened(files, path),
             start: Start::Nothing,
             reason: None,
-            watch: None,
         })
     }
 
@@ -106,35 +98,6 @@ impl<S: Read + Drop, O: Opener + Drop> Input<S, O> {
             stage: Stage::Unnamed,
             start: Start::Nothing,
             reason: Some(Reason::NotUtf8),
-            watch: None,
-        }
-    }
-
-    /// The same, whose bytes a watch looks at from now on, or none.
-    pub fn watched_by(self, watch: Option<Watch>) -> Input<S, O>
-        ensures { result ≡ record self { watch = watch } }
-    {
-        let mut input = self;
-        input.watch = watch;
-        input
-    }
-
-    /// Whether its watch has this label, and no line of the bytes that came begins a block with it. Where it has no watch
-    /// it lacks none.
-    ///
-    /// # Errors
-    ///
-    /// `AllocError` where memory is refused now, or was to the watch.
-    pub fn lacks(&self, label: &[u8]) -> Result<bool, AllocError>
-        ensures settled { IfOk result (λ lacks. lacks ≡
-            list_any (bytes_eq label.now) (missing_of self.now)) }
-        ensures whole { (came : List ℕ) → HasWatched self.now.watch came →
-            IfOk result (λ lacks. lacks ≡ list_any (bytes_eq label.now)
-            (unbegun (watched_in self.now.watch) came)) }
-    {
-        match &self.watch {
-            Some(watch) => watch.lacks(label),
-            None => Ok(false),
         }
     }
 
@@ -163,7 +126,6 @@ impl<S: Read + Drop, O: Opener + Drop> Input<S, O> {
         ensures start { start_of self.new ≡ start_of self.old }
         ensures reason { reason_of self.new ≡ reason_of self.old }
         ensures opened { opened_of self.new ≡ opened_of self.old }
-        ensures watch { self.new.watch ≡ self.old.watch }
     {
         self.stage = mem::replace(&mut self.stage, Stage::Ended(None)).closed();
     }
@@ -226,7 +188,6 @@ impl<S: Read + Drop, O: Opener + Drop> Read for Input<S, O> {
     ghost use Rattle.std.specs.Io.{ReadsAtMost};
     ghost use Rattle.std.specs.Io.KnownBytes.{ReadConsumes};
     ghost use Rattle.aero_program.specs.Inputs.{standing_of, bytes_left, opened_of, start_of, reason_of, MayFailFrom, OpensTo, StepsTo};
-    ghost use Rattle.aero_program.specs.Labels.{came_after, HasWatched, watched_in};
     ghost use Rattle.aero_program.specs.Starts.{start_after};
     ghost use Rattle.std.specs.IoError.{raw_os_error};
     ghost use Rattle.aero_program.specs.Reasons.{reason_after};
@@ -247,17 +208,11 @@ impl<S: Read + Drop, O: Opener + Drop> Read for Input<S, O> {
             (opened_of self.old) (opened_of self.new) }
         ensures start { start_of self.new ≡ start_after (start_of self.old) result buf.new }
         ensures reason { reason_of self.new ≡ reason_after raw_os_error (reason_of self.old) result }
-        ensures watched { watched_in self.new.watch ≡ watched_in self.old.watch }
-        ensures seen { (came : List ℕ) → HasWatched self.old.watch came →
-            HasWatched self.new.watch (came_after came result buf.new) }
     {
         let (stage, outcome) = mem::replace(&mut self.stage, Stage::Ended(None)).read(buf);
         self.stage = stage;
         match &outcome {
-            Ok(count) => {
-                self.start = self.start.after_all(&buf[..*count]);
-                feed(&mut self.watch, &buf[..*count]);
-            }
+            Ok(count) => self.start = self.start.after_all(&buf[..*count]),
             Err(error) => self.reason = self.reason.or(Some(Reason::of(error))),
         }
         outcome
@@ -360,17 +315,6 @@ impl<S: Read + Drop, O: Opener + Drop> Stage<S, O> {
             Ok(0) if !buf.is_empty() => (Stage::Ended(stamp), Ok(0)),
             Ok(count) => (Stage::Reading(file, stamp), Ok(count)),
         }
-    }
-}
-
-// Lets the watch see the next bytes, if there is one.
-fn feed(watch: &mut Option<Watch>, piece: &[u8])
-    ensures watched { watched_in watch.new ≡ watched_in watch.old }
-    ensures seen { (came : List ℕ) → HasWatched watch.old came →
-        HasWatched watch.new (came ++ piece.now) }
-{
-    if let Some(watch) = watch {
-        watch.feed(piece);
     }
 }
 

@@ -1,108 +1,81 @@
-//! The labels of `--only` and `--except` that begin no block of any source, as a run tells them.
-ghost use Rattle.std.specs.Prelude.{◌≡◌, ◌++◌, ℕ, List, [], if◌then◌else◌, true, flat_map, map, vec_len, IfOk, IfSome, OnOk};
-ghost use Rattle.std.specs.List.{filter, list_all, list_any};
-ghost use Rattle.std.specs.Prelude.{bytes_eq};
-ghost use Rattle.aero_program.specs.Labels.{HasWatched, watched_in};
-ghost use Rattle.aero_program.specs.Notes.{all_read, is_whole, label_line, label_lines, missing_in_each, more_line};
-ghost use Rattle.aero_program.specs.Traces.{unused_in};
+//! The labels of `--only` and `--except` with which no block of any source begins, as a run tells them.
+ghost use Rattle.std.specs.Prelude.{◌≡◌, ◌++◌, ℕ, List, not, flat_map, map, IfOk, IfSome, OnOk};
+ghost use Rattle.std.specs.List.{filter};
+ghost use Rattle.aero_program.specs.Labels.{is_flagged, unflagged};
+ghost use Rattle.aero_program.specs.Notes.{label_line, label_lines, more_line};
 
-use crate::files::Opener;
 use crate::notes::append_said;
-use crate::traced::Traced;
-use aero_batch::Cause;
-use aero_intake::SourceOf;
-use aero_model::{Ending, Name, SharedExcept};
-use aero_watch::Watch;
+use aero_intake::Begun;
+use aero_model::{Except, Name, Terms};
 use itoa::Buffer;
 use std::alloc::{AllocError, Global};
-use std::io::Read;
 
 // How many labels with which no block begins have a line of their own.
 const MOST_LINES: usize = 10;
 
-// A watch for the labels of the list, if it has any.
-pub(crate) fn watch_for(alloc: Global, except: &SharedExcept) -> Result<Option<Watch>, AllocError>
-    ensures labels { IfOk result (λ watch. watched_in watch ≡ except.now.labels) }
-    ensures seen { IfOk result (λ watch. HasWatched watch []) }
-{
-    if except.get().labels().is_empty() {
-        return Ok(None);
-    }
-    Watch::new(alloc, except).map(Some)
-}
-
-/// Those of these labels with which no block of any source begins, in order. `None` says that memory is refused now, or was
-/// to a watch.
-pub fn unused_labels<'a, S: Read + Drop, F: Opener + Drop>(
+/// Returns the listed labels with which no block begins, in order, by the flags of a run on these terms. It returns none of them if
+/// the run has no flags, or reads sources no further than it must, and `None` if memory is refused.
+pub fn unused_labels<'a>(
     alloc: Global,
-    sources: &[SourceOf<Traced<S, F>>],
-    labels: &'a [Name],
+    terms: &'a Terms,
+    begun: &Option<Begun>,
 ) -> Option<Vec<&'a Name>>
     ensures { IfSome result (λ unused. map (λ label. label.now) unused.items ≡
-        missing_in_each (map (λ s. unused_in s.reader) sources.now) labels.now) }
+        unflagged terms.now begun.now) }
 {
-    let Ok(all) = all_labels(alloc, labels) else {
-        return None;
-    };
-    if are_none(labels) {
-        return Some(all);
+    if terms.stop() {
+        return Some(Vec::new(alloc));
     }
-    match missing_of_all(alloc, sources, all) {
-        Ok(missing) => Some(missing),
+    let Some(begun) = begun else {
+        return Some(Vec::new(alloc));
+    };
+    match unbegun(alloc, terms.except(), begun) {
+        Ok(unused) => Some(unused),
         Err(_) => None,
     }
 }
 
-fn are_none(labels: &[Name]) -> bool
-    ensures { result ≡ true → labels.now ≡ [] }
-{
-    labels.is_empty()
-}
-
-// Those of the labels that each source lacks.
-fn missing_of_all<'a, S: Read + Drop, F: Opener + Drop>(
+// The listed labels whose flags aren't set.
+fn unbegun<'a>(
     alloc: Global,
-    sources: &[SourceOf<Traced<S, F>>],
-    labels: Vec<&'a Name>,
+    except: &'a Except,
+    begun: &Begun,
 ) -> Result<Vec<&'a Name>, AllocError>
     ensures { IfOk result (λ unused. map (λ label. label.now) unused.items ≡
-        missing_in_each (map (λ s. unused_in s.reader) sources.now)
-        (map (λ label. label.now) labels.entry.items)) }
+        filter (λ label. not (is_flagged except.now.labels begun.now.flags.items label))
+        except.now.labels) }
 {
-    let mut missing = labels;
-    for source in sources {
-        missing = lacking(alloc, &missing, &source.reader)?;
-    }
-    Ok(missing)
+    unbegun_among(alloc, except.labels(), except, begun)
 }
 
-fn all_labels<'a>(alloc: Global, labels: &'a [Name]) -> Result<Vec<&'a Name>, AllocError>
-    ensures { IfOk result (λ all. map (λ label. label.now) all.items ≡ labels.now) }
-{
-    let mut all = Vec::new(alloc);
-    for label in labels {
-        all.push(label)?;
-    }
-    Ok(all)
-}
-
-// Those of the labels that an input lacks.
-fn lacking<'a, S: Read + Drop, F: Opener + Drop>(
+// Those of these labels whose flags aren't set.
+fn unbegun_among<'a>(
     alloc: Global,
-    labels: &[&'a Name],
-    traced: &Traced<S, F>,
+    labels: &'a [Name],
+    except: &Except,
+    begun: &Begun,
 ) -> Result<Vec<&'a Name>, AllocError>
-    ensures { IfOk result (λ left. map (λ label. label.now) left.items ≡
-        filter (λ label. list_any (bytes_eq label) (unused_in traced.now))
-        (map (λ label. label.now) labels.now)) }
+    ensures { IfOk result (λ unused. map (λ label. label.now) unused.items ≡
+        filter (λ label. not (is_flagged except.now.labels begun.now.flags.items label))
+        labels.now) }
 {
-    let mut left = Vec::new(alloc);
+    let mut unused = Vec::new(alloc);
     for label in labels {
-        if traced.lacks(label.bytes())? {
-            left.push(*label)?;
+        if !is_flagged(except, begun, label) {
+            unused.push(label)?;
         }
     }
-    Ok(left)
+    Ok(unused)
+}
+
+// Whether the label's flag is set.
+fn is_flagged(except: &Except, begun: &Begun, label: &Name) -> bool
+    ensures { result ≡ is_flagged except.now.labels begun.now.flags.items label.now }
+{
+    match except.place_of(label.bytes()) {
+        Some(place) => begun.has(place),
+        None => false,
+    }
 }
 
 /// The lines on the first ten of these labels, in order, and behind them one that says how many more there are, if there
@@ -155,26 +128,4 @@ fn append_line(text: &mut Vec<u8>, label: &[u8], on_terminal: bool) -> Result<()
     text.extend_from_slice(b")")?;
     text.extend_from_slice(b"\n")?;
     Ok(())
-}
-
-/// Whether a run that stopped for this cause, or for none, read each source to its end.
-pub fn all_read(cause: Option<Cause>, endings: &[(u64, Ending)]) -> bool
-    ensures { result ≡ all_read cause endings.now }
-{
-    match cause {
-        None => are_whole(endings),
-        Some(_) => false,
-    }
-}
-
-fn are_whole(endings: &[(u64, Ending)]) -> bool
-    ensures { result ≡ list_all (λ ending. is_whole ending.1) endings.now }
-{
-    endings.iter().all(|ending| is_whole(ending.1))
-}
-
-fn is_whole(ending: Ending) -> bool
-    ensures { result ≡ is_whole ending }
-{
-    matches!(ending, Ending::Whole)
 }

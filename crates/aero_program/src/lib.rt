@@ -48,14 +48,13 @@
 //!   unreadable only if a read failed: `sources_of`, `left`, `unlisted_left`; `execute`.
 //! - If open blocks are to end, the sources are judged on terms that say so, and the summary as JSON tells it: `Config::into_plan`,
 //!   `end`; `execute`, over `terms_asked`.
-//! - An input notes its first three bytes and its first failure: `Input::read`, `start`, `reason`. It notes with which labels
-//!   of its watch no line of the bytes that came begins a block: `Input::read`, `watched`, `seen`; `lacks`.
-//! - Behind the notes on sources those labels are told, in order, that each source lacks, where each was read to its end:
-//!   `lines_on`, `all_read`, `execute`. That each source looks for them, `sources_of` says: `sighted`.
+//! - An input notes its first three bytes and its first failure: `Input::read`, `start`, `reason`.
+//! - Behind the notes on sources those listed labels are told, in order, with which no block of the sources begins, if each source
+//!   was read to its end, none has a malformed line, and sources aren't read only as far as they must be: `unused_labels`, `lines_on`;
+//!   `execute`, over `labels_told`.
 //! - What was noted of a source was noted by its own reader, of exactly the bytes that this gave: the first three, a reason
-//!   where one of its reads failed and else none, unless the name isn't UTF-8, a stamp of a file that was opened at its path,
-//!   and the labels with which none of their lines begins a block: `Traced`, `read`; `execute`, over `AreOwn`. The bytes are those
-//!   of which the report tells.
+//!   where one of its reads failed and else none, unless the name isn't UTF-8, and a stamp of a file that was opened at its path:
+//!   `Traced`, `read`; `execute`, over `AreOwn`. The bytes are those of which the report tells.
 //! - Where the flush of standard output fails as that of a pipe whose reader has gone, no line says so: `execute`,
 //!   `status_after`, `Failure::of_write`, `of_cut`.
 //! - The whole size of files is the sum of theirs, by their stamps, if each is a plain one: `look_at_all`, `whole`.

@@ -4,7 +4,7 @@ ghost use Rattle.std.specs.Option.{option_copied};
 ghost use Rattle.aero_report.specs.Asked.{note_of};
 ghost use Rattle.aero_program.specs.Notes.{AreNotes, GrowsBy, block_notes, fault_notes, faulty_in, is_unchecked, notable_told, is_missing, mark_notes, note_at, note_text, note_texts, noted_of, noted_of_all, place_text, reason_notes, reason_text, said_on, sentence_of, sentence_on, size_notes, was_too_large};
 ghost use Rattle.aero_program.specs.Reasons.{reason_words};
-ghost use Rattle.aero_program.specs.Traces.{input_of, unused_in};
+ghost use Rattle.aero_program.specs.Traces.{came_in, input_of};
 
 use crate::files::Opener;
 use crate::looker::Looker;
@@ -43,7 +43,7 @@ pub fn notes_of<S: Read + Drop, F: Opener + Drop, G: Opener>(
     are_words: bool,
 ) -> Result<Vec<Note>, AllocError>
     ensures { IfOk result (λ notes.
-        AreNotes G.holds (noted_of_all input_of unused_in are_words sources.now endings.now
+        AreNotes G.holds (noted_of_all input_of came_in are_words sources.now endings.now
         notables.now) (map note_of notes.items)) }
 {
     let mut notes = Vec::new(looker.alloc);
@@ -107,7 +107,7 @@ fn add_notes<S: Read + Drop, F: Opener + Drop, G: Opener>(
     are_words: bool,
 ) -> Result<(), AllocError>
     ensures { OnOk result (GrowsBy G.holds (map note_of notes.old.items)
-        (map note_of notes.new.items) (noted_of input_of unused_in are_words source.now
+        (map note_of notes.new.items) (noted_of input_of came_in are_words source.now
         found.too_large found.notable)) }
 {
     let name = source.name.as_slice();

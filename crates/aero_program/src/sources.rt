@@ -16,12 +16,10 @@ ghost use Rattle.aero_program.specs.Sightings.{AreNames, AreUnlisted, IsLeftBesi
 use crate::command::{MOST_FILES, Sources};
 use crate::files::Opener;
 use crate::input::Input;
-use crate::labels::watch_for;
 use crate::listing::{Unlisted, first_name, read_list};
 use crate::retrying::Retrying;
 use crate::traced::Traced;
 use aero_intake::SourceOf;
-use aero_model::SharedExcept;
 use std::alloc::{AllocError, Global};
 use std::io::Read;
 use std::str;
@@ -57,8 +55,8 @@ impl<S> From<AllocError> for Ungathered<S> {
 
 /// Standard input, under its name or `-`, or the file of each word, named as it, or of each name in a
 /// list, which is read for that. No other file is touched yet, and each is taken for one that may wait, until `look_at_all`
-/// has looked at it. A file can't be opened of which a list has a name that isn't UTF-8. Each looks for the labels
-/// of the list, where it has any. Nothing is read of standard input but a list that it has.
+/// has looked at it. A file can't be opened of which a list has a name that isn't UTF-8. Nothing is read of standard
+/// input but a list that it has.
 ///
 /// # Errors
 ///
@@ -68,7 +66,6 @@ pub fn sources_of<'a, S: Read + Drop, F: Opener + Drop>(
     files: &'a F,
     stdin: S,
     asked: &Sources,
-    except: &SharedExcept,
 ) -> Result<Gathered<S, &'a F>, Ungathered<S>>
     ensures few { count_named asked.now ≤ 2 ^ 16 →
         IfOk result (λ made. vec_len made.sources ≤ 2 ^ 16) }
@@ -82,7 +79,7 @@ pub fn sources_of<'a, S: Read + Drop, F: Opener + Drop>(
         made.sources.items ≡ source_reasons asked.now (map (λ s. s.name.items) made.sources.items)) }
     ensures sighted { IfOk result (λ made.
         map (sighted (sight_of S.remaining (λ f. F.known f.now) F.File.remaining))
-        made.sources.items ≡ source_sightings (F.known files.now) except.now.labels asked.now
+        made.sources.items ≡ source_sightings (F.known files.now) asked.now
         (S.remaining stdin) (map (λ s. s.name.items) made.sources.items)) }
     ensures left { IfOk result (λ made. IsLeftBeside asked.now (S.remaining stdin)
         (option_map (seen_within S.remaining) made.stdin)) }
@@ -94,20 +91,20 @@ pub fn sources_of<'a, S: Read + Drop, F: Opener + Drop>(
 {
     match asked {
         Sources::Standard(name) => {
-            let sources = standard_alone(alloc, stdin, name, except)?;
+            let sources = standard_alone(alloc, stdin, name)?;
             Ok(Gathered {
                 sources,
                 stdin: None,
             })
         }
         Sources::Files(words) => {
-            let sources = files_of(alloc, files, words, except)?;
+            let sources = files_of(alloc, files, words)?;
             Ok(Gathered {
                 sources,
                 stdin: Some(untouched(stdin)),
             })
         }
-        Sources::Listed(path) => listed_at(alloc, files, stdin, path.as_str(), except),
+        Sources::Listed(path) => listed_at(alloc, files, stdin, path.as_str()),
     }
 }
 
@@ -123,7 +120,6 @@ fn standard_alone<'a, S: Read + Drop, F: Opener + Drop>(
     alloc: Global,
     stdin: S,
     name: &Option<String>,
-    except: &SharedExcept,
 ) -> Result<Vec<SourceOf<Traced<S, &'a F>>>, AllocError>
     ensures names { IfOk result (λ sources. map (λ s. s.name.items) sources.items ≡
         unwrap_or (option_map string_bytes name.now) (codes "-") ∷ []) }
@@ -134,11 +130,11 @@ fn standard_alone<'a, S: Read + Drop, F: Opener + Drop>(
         sources.items ≡ None ∷ []) }
     ensures sighted { IfOk result (λ sources.
         map (sighted (sight_of S.remaining (λ f. F.known f.now) F.File.remaining)) sources.items ≡
-        sightings (λ _. made_at Stream except.now.labels (S.remaining stdin))
+        sightings (λ _. made_at Stream (S.remaining stdin))
         (unwrap_or (option_map string_bytes name.now) (codes "-") ∷ [])) }
     ensures one { IfOk result (λ sources. vec_len sources ≡ 1) }
 {
-    let source = standard_of(alloc, stdin, name_or_dash(name), except)?;
+    let source = standard_of(alloc, stdin, name_or_dash(name))?;
     alone(alloc, source)
 }
 
@@ -167,7 +163,6 @@ fn standard_of<'a, S: Read + Drop, F: Opener + Drop>(
     alloc: Global,
     stdin: S,
     name: &[u8],
-    except: &SharedExcept,
 ) -> Result<SourceOf<Traced<S, &'a F>>, AllocError>
     ensures name { IfOk result (λ s. s.name.items ≡ name.now) }
     ensures reader { IfOk result (λ s. standing_of S.remaining (λ f. F.known f.now) F.File.remaining
@@ -175,12 +170,11 @@ fn standard_of<'a, S: Read + Drop, F: Opener + Drop>(
     ensures reason { IfOk result (λ s. reason_of (input_of s.reader) ≡ None) }
     ensures sighted { IfOk result (λ s.
         sighted (sight_of S.remaining (λ f. F.known f.now) F.File.remaining) s ≡
-        record { name = name.now; reader = made_at Stream except.now.labels (S.remaining stdin) }) }
+        record { name = name.now; reader = made_at Stream (S.remaining stdin) }) }
 {
-    let watch = watch_for(alloc, except)?;
     Ok(SourceOf {
         name: Vec::from_slice(alloc, name)?,
-        reader: Traced::new(Input::standard(stdin).watched_by(watch)),
+        reader: Traced::new(Input::standard(stdin)),
         may_wait: true,
     })
 }
@@ -190,7 +184,6 @@ fn files_of<'a, S: Read + Drop, F: Opener + Drop>(
     alloc: Global,
     files: &'a F,
     words: &[String],
-    except: &SharedExcept,
 ) -> Result<Vec<SourceOf<Traced<S, &'a F>>>, AllocError>
     ensures names { IfOk result (λ sources. map (λ s. s.name.items) sources.items ≡
         map string_bytes words.now) }
@@ -201,10 +194,10 @@ fn files_of<'a, S: Read + Drop, F: Opener + Drop>(
         sources.items ≡ map (λ _. None) (map string_bytes words.now)) }
     ensures sighted { IfOk result (λ sources.
         map (sighted (sight_of S.remaining (λ f. F.known f.now) F.File.remaining)) sources.items ≡
-        sightings (file_made (F.known files.now) except.now.labels) (map string_bytes words.now)) }
+        sightings (file_made (F.known files.now)) (map string_bytes words.now)) }
 {
     let mut sources = Vec::new(alloc);
-    add_files(alloc, files, words, except, &mut sources)?;
+    add_files(alloc, files, words, &mut sources)?;
     Ok(sources)
 }
 
@@ -213,7 +206,6 @@ fn add_files<'a, S: Read + Drop, F: Opener + Drop>(
     alloc: Global,
     files: &'a F,
     words: &[String],
-    except: &SharedExcept,
     sources: &mut Vec<SourceOf<Traced<S, &'a F>>>,
 ) -> Result<(), AllocError>
     requires { sources.old.items ≡ [] }
@@ -226,10 +218,10 @@ fn add_files<'a, S: Read + Drop, F: Opener + Drop>(
         map (λ _. None) (map string_bytes words.now)) }
     ensures sighted { OnOk result (map
         (sighted (sight_of S.remaining (λ f. F.known f.now) F.File.remaining)) sources.new.items ≡
-        sightings (file_made (F.known files.now) except.now.labels) (map string_bytes words.now)) }
+        sightings (file_made (F.known files.now)) (map string_bytes words.now)) }
 {
     for word in words {
-        let source = file_of(alloc, files, word.as_str(), except)?;
+        let source = file_of(alloc, files, word.as_str())?;
         sources.push(source)?;
     }
     Ok(())
@@ -240,7 +232,6 @@ fn file_of<'a, S: Read + Drop, F: Opener + Drop>(
     alloc: Global,
     files: &'a F,
     path: &str,
-    except: &SharedExcept,
 ) -> Result<SourceOf<Traced<S, &'a F>>, AllocError>
     ensures name { IfOk result (λ s. s.name.items ≡ path.now) }
     ensures reader { IfOk result (λ s. standing_of S.remaining (λ f. F.known f.now) F.File.remaining
@@ -250,13 +241,12 @@ fn file_of<'a, S: Read + Drop, F: Opener + Drop>(
         sighted (sight_of S.remaining (λ f. F.known f.now) F.File.remaining) s ≡
         record {
           name = path.now;
-          reader = file_made (F.known files.now) except.now.labels path.now;
+          reader = file_made (F.known files.now) path.now;
         }) }
 {
-    let watch = watch_for(alloc, except)?;
     Ok(SourceOf {
         name: Vec::from_slice(alloc, path.as_bytes())?,
-        reader: Traced::new(Input::path(alloc, files, path)?.watched_by(watch)),
+        reader: Traced::new(Input::path(alloc, files, path)?),
         may_wait: true,
     })
 }
@@ -267,7 +257,6 @@ fn listed_at<'a, S: Read + Drop, F: Opener + Drop>(
     files: &'a F,
     stdin: S,
     path: &str,
-    except: &SharedExcept,
 ) -> Result<Gathered<S, &'a F>, Ungathered<S>>
     ensures few { IfOk result (λ made. vec_len made.sources ≤ 2 ^ 16) }
     ensures names { IfOk result (λ made. (list : List ℕ) ×
@@ -281,7 +270,7 @@ fn listed_at<'a, S: Read + Drop, F: Opener + Drop>(
         made.sources.items ≡ map listed_reason (map (λ s. s.name.items) made.sources.items)) }
     ensures sighted { IfOk result (λ made.
         map (sighted (sight_of S.remaining (λ f. F.known f.now) F.File.remaining))
-        made.sources.items ≡ sightings (listed_made (F.known files.now) except.now.labels)
+        made.sources.items ≡ sightings (listed_made (F.known files.now))
         (map (λ s. s.name.items) made.sources.items)) }
     ensures left { IfOk result (λ made. IsLeftByList path.now (S.remaining stdin)
         (option_map (seen_within S.remaining) made.stdin)) }
@@ -293,9 +282,9 @@ fn listed_at<'a, S: Read + Drop, F: Opener + Drop>(
         (option_map (seen_within S.remaining) un.stdin)) }
 {
     if path == "-" {
-        listed_in_stream(alloc, files, stdin, except)
+        listed_in_stream(alloc, files, stdin)
     } else {
-        listed_in_file(alloc, files, stdin, path, except)
+        listed_in_file(alloc, files, stdin, path)
     }
 }
 
@@ -304,7 +293,6 @@ fn listed_in_stream<'a, S: Read + Drop, F: Opener + Drop>(
     alloc: Global,
     files: &'a F,
     stdin: S,
-    except: &SharedExcept,
 ) -> Result<Gathered<S, &'a F>, Ungathered<S>>
     ensures few { IfOk result (λ made. vec_len made.sources ≤ 2 ^ 16) }
     ensures names { IfOk result (λ made. (list : List ℕ) × IsWhole (S.remaining stdin) list ×
@@ -317,7 +305,7 @@ fn listed_in_stream<'a, S: Read + Drop, F: Opener + Drop>(
         made.sources.items ≡ map listed_reason (map (λ s. s.name.items) made.sources.items)) }
     ensures sighted { IfOk result (λ made.
         map (sighted (sight_of S.remaining (λ f. F.known f.now) F.File.remaining))
-        made.sources.items ≡ sightings (listed_made (F.known files.now) except.now.labels)
+        made.sources.items ≡ sightings (listed_made (F.known files.now))
         (map (λ s. s.name.items) made.sources.items)) }
     ensures left { IfOk result (λ made. IsReadOut (option_map (seen_within S.remaining) made.stdin)) }
     ensures unlisted { IfErr result (λ un. IsListFault ⊤ (S.remaining stdin) un.why) }
@@ -328,7 +316,7 @@ fn listed_in_stream<'a, S: Read + Drop, F: Opener + Drop>(
     let list = read_list(alloc, &mut input);
     let stdin = input.into_standard();
     match list {
-        Ok(list) => listed_by(alloc, files, &list, stdin, except),
+        Ok(list) => listed_by(alloc, files, &list, stdin),
         Err(why) => Err(Ungathered { why, stdin }),
     }
 }
@@ -339,7 +327,6 @@ fn listed_in_file<'a, S: Read + Drop, F: Opener + Drop>(
     files: &'a F,
     stdin: S,
     path: &str,
-    except: &SharedExcept,
 ) -> Result<Gathered<S, &'a F>, Ungathered<S>>
     ensures few { IfOk result (λ made. vec_len made.sources ≤ 2 ^ 16) }
     ensures names { IfOk result (λ made. (list : List ℕ) × IsWhole (F.known files.now path.now)
@@ -352,7 +339,7 @@ fn listed_in_file<'a, S: Read + Drop, F: Opener + Drop>(
         made.sources.items ≡ map listed_reason (map (λ s. s.name.items) made.sources.items)) }
     ensures sighted { IfOk result (λ made.
         map (sighted (sight_of S.remaining (λ f. F.known f.now) F.File.remaining))
-        made.sources.items ≡ sightings (listed_made (F.known files.now) except.now.labels)
+        made.sources.items ≡ sightings (listed_made (F.known files.now))
         (map (λ s. s.name.items) made.sources.items)) }
     ensures left { IfOk result (λ made. IsUntouched (S.remaining stdin)
         (option_map (seen_within S.remaining) made.stdin)) }
@@ -366,7 +353,7 @@ fn listed_in_file<'a, S: Read + Drop, F: Opener + Drop>(
     let list = read_list(alloc, &mut input);
     let stdin = Some(untouched(stdin));
     match list {
-        Ok(list) => listed_by(alloc, files, &list, stdin, except),
+        Ok(list) => listed_by(alloc, files, &list, stdin),
         Err(why) => Err(Ungathered { why, stdin }),
     }
 }
@@ -377,7 +364,6 @@ fn listed_by<'a, S: Read + Drop, F: Opener + Drop>(
     files: &'a F,
     list: &[u8],
     stdin: Option<Retrying<S>>,
-    except: &SharedExcept,
 ) -> Result<Gathered<S, &'a F>, Ungathered<S>>
     ensures few { IfOk result (λ made. vec_len made.sources ≤ 2 ^ 16) }
     ensures names { IfOk result (λ made. map (λ s. s.name.items) made.sources.items ≡
@@ -390,14 +376,14 @@ fn listed_by<'a, S: Read + Drop, F: Opener + Drop>(
         made.sources.items ≡ map listed_reason (map (λ s. s.name.items) made.sources.items)) }
     ensures sighted { IfOk result (λ made.
         map (sighted (sight_of S.remaining (λ f. F.known f.now) F.File.remaining))
-        made.sources.items ≡ sightings (listed_made (F.known files.now) except.now.labels)
+        made.sources.items ≡ sightings (listed_made (F.known files.now))
         (map (λ s. s.name.items) made.sources.items)) }
     ensures left { IfOk result (λ made. made.stdin ≡ stdin) }
     ensures unlisted { IfErr result
         (λ un. (un.why ≡ Memory) ⊎ ((un.why ≡ TooMany) × (2 ^ 16 < length (names_in list.now)) ×
         (un.stdin ≡ stdin))) }
 {
-    let sources = listed_in(alloc, files, list, except)?;
+    let sources = listed_in(alloc, files, list)?;
     if sources.len() > MOST_FILES {
         return Err(Ungathered {
             why: Unlisted::TooMany,
@@ -412,7 +398,6 @@ fn listed_in<'a, S: Read + Drop, F: Opener + Drop>(
     alloc: Global,
     files: &'a F,
     list: &[u8],
-    except: &SharedExcept,
 ) -> Result<Vec<SourceOf<Traced<S, &'a F>>>, AllocError>
     ensures names { IfOk result (λ sources. map (λ s. s.name.items) sources.items ≡
         names_in list.now) }
@@ -424,11 +409,11 @@ fn listed_in<'a, S: Read + Drop, F: Opener + Drop>(
         sources.items ≡ map listed_reason (map (λ s. s.name.items) sources.items)) }
     ensures sighted { IfOk result (λ sources.
         map (sighted (sight_of S.remaining (λ f. F.known f.now) F.File.remaining)) sources.items ≡
-        sightings (listed_made (F.known files.now) except.now.labels)
+        sightings (listed_made (F.known files.now))
         (map (λ s. s.name.items) sources.items)) }
 {
     let mut sources = Vec::new(alloc);
-    add_listed(alloc, files, list, except, &mut sources)?;
+    add_listed(alloc, files, list, &mut sources)?;
     Ok(sources)
 }
 
@@ -437,7 +422,6 @@ fn add_listed<'a, S: Read + Drop, F: Opener + Drop>(
     alloc: Global,
     files: &'a F,
     list: &[u8],
-    except: &SharedExcept,
     sources: &mut Vec<SourceOf<Traced<S, &'a F>>>,
 ) -> Result<(), AllocError>
     requires { sources.old.items ≡ [] }
@@ -450,13 +434,13 @@ fn add_listed<'a, S: Read + Drop, F: Opener + Drop>(
         map listed_reason (map (λ s. s.name.items) sources.new.items)) }
     ensures sighted { OnOk result (map
         (sighted (sight_of S.remaining (λ f. F.known f.now) F.File.remaining)) sources.new.items ≡
-        sightings (listed_made (F.known files.now) except.now.labels)
+        sightings (listed_made (F.known files.now))
         (map (λ s. s.name.items) sources.new.items)) }
 {
     let mut rest = list;
     while !rest.is_empty() {
         let (name, behind) = first_name(rest);
-        let source = named_of(alloc, files, name, except)?;
+        let source = named_of(alloc, files, name)?;
         sources.push(source)?;
         rest = behind;
     }
@@ -468,7 +452,6 @@ fn named_of<'a, S: Read + Drop, F: Opener + Drop>(
     alloc: Global,
     files: &'a F,
     name: &[u8],
-    except: &SharedExcept,
 ) -> Result<SourceOf<Traced<S, &'a F>>, AllocError>
     ensures name { IfOk result (λ s. s.name.items ≡ name.now) }
     ensures reader { IfOk result (λ s. standing_of S.remaining (λ f. F.known f.now) F.File.remaining
@@ -478,14 +461,14 @@ fn named_of<'a, S: Read + Drop, F: Opener + Drop>(
         sighted (sight_of S.remaining (λ f. F.known f.now) F.File.remaining) s ≡
         record {
           name = name.now;
-          reader = listed_made (F.known files.now) except.now.labels
+          reader = listed_made (F.known files.now)
               name.now;
         }) }
 {
     let Some(path) = path_of(name) else {
-        return unnamed_of(alloc, name, except);
+        return unnamed_of(alloc, name);
     };
-    file_of(alloc, files, path, except)
+    file_of(alloc, files, path)
 }
 
 // The path that a name is, where it is UTF-8.
@@ -503,7 +486,6 @@ fn path_of(name: &[u8]) -> Option<&str>
 fn unnamed_of<'a, S: Read + Drop, F: Opener + Drop>(
     alloc: Global,
     name: &[u8],
-    except: &SharedExcept,
 ) -> Result<SourceOf<Traced<S, &'a F>>, AllocError>
     ensures name { IfOk result (λ s. s.name.items ≡ name.now) }
     ensures reader { IfOk result (λ s. standing_of S.remaining (λ f. F.known f.now) F.File.remaining
@@ -511,12 +493,11 @@ fn unnamed_of<'a, S: Read + Drop, F: Opener + Drop>(
     ensures reason { IfOk result (λ s. reason_of (input_of s.reader) ≡ Some NotUtf8) }
     ensures sighted { IfOk result (λ s.
         sighted (sight_of S.remaining (λ f. F.known f.now) F.File.remaining) s ≡
-        record { name = name.now; reader = made_at Nowhere except.now.labels None }) }
+        record { name = name.now; reader = made_at Nowhere None }) }
 {
-    let watch = watch_for(alloc, except)?;
     Ok(SourceOf {
         name: Vec::from_slice(alloc, name)?,
-        reader: Traced::new(Input::unnamed().watched_by(watch)),
+        reader: Traced::new(Input::unnamed()),
         may_wait: false,
     })
 }

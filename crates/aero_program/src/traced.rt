@@ -1,19 +1,16 @@
 //! An input of which contracts see what it was made for, and which bytes it gave.
-ghost use Rattle.std.specs.Prelude.{◌≡◌, ◌+◌, [], None, if◌then◌else◌, is_err, bytes_eq, IfOk};
+ghost use Rattle.std.specs.Prelude.{◌≡◌, ◌+◌, [], None, if◌then◌else◌, is_err};
 ghost use Rattle.std.specs.Io.{ReadsAtMost};
-ghost use Rattle.std.specs.List.{list_any};
 ghost use Rattle.aero_model.specs.CallCounts.{moves_nothing};
 ghost use Rattle.aero_intake.specs.Source.{gained};
 ghost use Rattle.aero_program.specs.Inputs.{opened_of, reason_of, standing_of, start_of};
-ghost use Rattle.aero_program.specs.Labels.{HasWatched};
-ghost use Rattle.aero_program.specs.Led.{IsLed, IsUnread, place_of, reason_at, sight_at, unbegun_in};
+ghost use Rattle.aero_program.specs.Led.{IsLed, IsUnread, place_of, reason_at, sight_at};
 
 use crate::files::Opener;
 use crate::ghost_text::GhostText;
 use crate::input::Input;
 use aero_intake::Followed;
 use aero_model::ghost_count::GhostCount;
-use std::alloc::AllocError;
 use std::io;
 use std::io::{ErrorKind, Read};
 use std::snapshot::Snapshot;
@@ -39,7 +36,6 @@ impl<S: Read + Drop, O: Opener + Drop> Traced<S, O> {
             reason_at (place_of (standing_of S.remaining O.known O.File.remaining input)) }
         requires opened { opened_of input ≡ None }
         requires unread { IsUnread (standing_of S.remaining O.known O.File.remaining input) }
-        requires seen { HasWatched input.watch [] }
         ensures input { result.input ≡ input }
         ensures first { result.first.value ≡ input }
         ensures given { result.given.bytes ≡ [] }
@@ -54,18 +50,6 @@ impl<S: Read + Drop, O: Opener + Drop> Traced<S, O> {
             faults: GhostCount::zero(),
             ends: GhostCount::zero(),
         }
-    }
-
-    /// Whether it looks for this label, and no line of the bytes that came begins a block with it.
-    ///
-    /// # Errors
-    ///
-    /// `AllocError` where memory is refused now, or was to its watch.
-    pub fn lacks(&self, label: &[u8]) -> Result<bool, AllocError>
-        ensures { IfOk result (λ lacks. lacks ≡
-            list_any (bytes_eq label.now) (unbegun_in self.now.first.value self.now.given.bytes)) }
-    {
-        self.input.lacks(label)
     }
 
     /// The input.

@@ -14,7 +14,7 @@ use Rattle.aero_telling.specs.declared.cause.Cause.TheVariants.{Memory, Write}
 use Rattle.aero_telling.specs.declared.notable.Notable.{Notable}
 use Rattle.aero_intake.specs.declared.source.SourceOf.{SourceOf}
 use Rattle.aero_intake.specs.PlanTerms.{options_in}
-use Rattle.aero_intake.specs.Source.{Origin, Sight, WasRead, origin_in}
+use Rattle.aero_intake.specs.Source.{Place, Sight, WasRead, place_in}
 use Rattle.aero_judge.specs.Finding.{IsFinding}
 use Rattle.aero_model.specs.Terms.{Terms}
 
@@ -27,9 +27,9 @@ pub record Sighted : Type 0 where
 abbrev pub sighted : {R : Type 0} → (R → Sight) → SourceOf R → Sighted
 sighted sight source = record { name = source.name.items; reader = sight source.reader }
 
--- its name, and what its reader was made for, if the reader says so
-abbrev pub whose : Sighted → List ℕ × Option Origin
-whose s = (s.name, origin_in s.reader)
+-- its name, and where its reader reads, if the reader says so
+abbrev pub whose : Sighted → List ℕ × Option Place
+whose s = (s.name, place_in s.reader)
 
 -- what was found of a source: the bytes that came, how they ended, and what is said of them
 pub record Found : Type 0 where

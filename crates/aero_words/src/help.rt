@@ -126,7 +126,8 @@ After the report, standard error has notes, in the order of the traces:
       An explanation of the fault on line L, which is malformed or ill-formed.
   aerodrome: no block begins with begin(LABEL)
       This label of --except, --only or a file of labels may be mistyped. If a
-      trace couldn't be read to its end, there are no notes on labels.
+      trace couldn't be read to its end or has a malformed line, there are no
+      notes on labels. With --stop there are none either.
   aerodrome: no block begins with N more of the labels
       After ten such labels the others are only counted.
 

@@ -25,7 +25,7 @@ returns-then-underway-sources g c =
             may = search rules;
             unread = subst (λ n. place < n) (sym (length-map sources (sighted known))) within;
           }))) c.read_on.ensures.reads;
-      names = names_stay known sources place x c.read_on.new.reader at c.read_on.ensures.origin;
+      names = names_stay known sources place x c.read_on.new.reader at c.read_on.ensures.place;
       others = others_stay known sources place x c.read_on.new.reader at;
       waits = λ stop some. absurd (search rules);
     }

@@ -6,22 +6,27 @@ use Rattle.aero_model.specs.Exempt.{Listed}
 use Rattle.aero_model.specs.declared.verdict.Ending.{Ending}
 use Rattle.std.specs.IoError.{error_kind}
 use Rattle.aero_model.specs.Terms.{ruled}
-use Rattle.aero_telling.specs.Founds.{sighted, whose}
+use Rattle.aero_telling.specs.declared.cause.Cause.{Cause}
+use Rattle.aero_telling.specs.Founds.{WasTold, sighted, whose}
 use Rattle.aero_telling.proofs.Tellings.{summed}
 use Rattle.aero_intake.specs.PlanTerms.{options_with, terms_of}
 use Rattle.aero_report.specs.Asked.{note_of}
 use Rattle.aero_report.specs.Forms.{summary_line_in}
 use Rattle.aero_report.specs.Options.{Note}
-use Rattle.aero_program.specs.Traces.{input_of, sight_of, unused_in}
+use Rattle.aero_program.specs.Traces.{came_in, input_of, sight_of}
+use Rattle.aero_program.proofs.Unbegun.{labels_of_run}
 use Rattle.aero_program.proofs.Unused.{found_labels, lines_told, summed_beside, told_labels}
 use Rattle.aero_program.specs.declared.command.Sources.{Sources}
 use Rattle.aero_program.specs.Executed.{Ends, TellsUnlisted}
+use Rattle.aero_program.specs.Inputs.{standing_of}
+use Rattle.aero_program.specs.Labels.{unflagged}
+use Rattle.aero_program.specs.Led.{place_of}
 use Rattle.aero_program.specs.Command.{are_words, count_named, list_path, listed_by}
 use Rattle.aero_program.specs.Sizes.{name_and_reader}
 use Rattle.aero_program.specs.Sightings.{AreNames, AreUnlisted, IsLeftBeside, IsLeftUnlisted, source_sightings}
 use Rattle.aero_program.specs.Retries.{seen_within}
 use Rattle.std.specs.Prelude.{IfSome, option_map, unwrap_or}
-use Rattle.aero_program.specs.Notes.{AreNotes, all_read, label_lines, labels_told, missing_in_each, note_texts, noted_of_all, notes_on}
+use Rattle.aero_program.specs.Notes.{AreNotes, label_lines, labels_told, note_texts, noted_of_all, notes_on}
 use Rattle.aero_program.proofs.Noting.{told_as}
 use Rattle.aero_program.specs.Faults.{fault_of}
 use Rattle.aero_program.specs.Status.{end_checked}
@@ -48,16 +53,13 @@ returns g c =
     let names : List (List ℕ) = map (λ s. s.name.items) c.in-Ok-sources_of.gathered.sources.items in
     let named : AreNames known config.files given names = subst (λ (s : Sources). AreNames known s given names) asked_is c.in-Ok-sources_of.ensures.names in
     let listed : Listed = unwrap_or c.args.chosen.set (listed_by config.except.items config.only.items) in
-    let labels : List (List ℕ) = listed.labels in
-    let looked_for : c.shared_except.result.now.labels ≡ labels = ap (λ (l : Listed). l.labels) (c.shared_except.ensures ∙ c.in-Ok.ensures.except) in
     let gathered = c.in-Ok-sources_of.gathered.sources in
     let looked_at = c.look_at_all-extent.new.sources in
     let as_many : length looked_at ≡ gathered.len = omega (arith, c.look_at_all-extent.auto.sources, c.deref_mut.ensures.len) in
     let sight = sight_of g.S.Read.remaining (λ (f : Bor g.row.F.Denot). g.F.Opener.known f.now) g.F.File.Read.remaining in
     let sources = (with_items gathered looked_at).items in
     let seen = same_sighted sources gathered.items sight (ap (map name_and_reader) (with_items_is gathered looked_at as_many) ∙ c.look_at_all-extent.ensures.kept ∙ ap (map name_and_reader) c.deref_mut.ensures.value)
-    ∙ c.in-Ok-sources_of.ensures.sighted ∙ ap (λ (s : Sources). source_sightings known c.shared_except.result.now.labels s given names) asked_is
-    ∙ ap (λ ls. source_sightings known ls config.files given names) looked_for in
+    ∙ c.in-Ok-sources_of.ensures.sighted ∙ ap (λ (s : Sources). source_sightings known s given names) asked_is in
     let words : Bool = are_words config.files in
     let on : Bool = config.terminals.errors in
     let terms = terms_of c.in-Ok.plan in
@@ -70,28 +72,27 @@ returns g c =
     let mid = seen_by (λ w. g.O.Write.contents (written_by w)) c.run_all-report.new.writer in
     let after = seen_by (λ w. g.O.Write.contents (written_by w)) c.sum_up_with-cause.new.writer in
     let noted_endings : List (ℕ × Ending) = if config.long then [] else report.told.endings.items in
-    let noted = noted_of_all input_of unused_in words left noted_endings report.told.notables.items in
-    let labels_are : c.labels.result.now ≡ labels = c.labels.ensures ∙ ap (λ (l : Listed). l.labels) (c.except.ensures ∙ c.in-Ok.ensures.except) in
-    let listed_are : c.told_of-labels.result.now ≡ (if all_read report.cause report.told.endings.items then labels else []) =
-    c.told_of-labels.ensures ∙ ap (λ b. if b then c.labels.result.now else []) (c.all_read.ensures ∙ ap (all_read report.cause) c.deref.ensures.value)
-    ∙ ap (λ ls. if all_read report.cause report.told.endings.items then ls else []) labels_are in
-    let found = found_labels input_of unused_in unused (λ u. map (λ label. label.now) u.items) report.cause report.told.endings.items words left noted_endings report.told.notables.items c.told_of-labels.result.now labels
-    (subst (λ l. IfSome unused (λ u. map (λ label. label.now) u.items ≡ missing_in_each (map (λ s. unused_in s.reader) l) c.told_of-labels.result.now)) c.deref-2.ensures.value c.unused_labels-unused.ensures) listed_are in
-    let told = told_as input_of unused_in g.F.Opener.holds (λ ns. map note_of ns.items) c.are_words.result words left noted_endings report.told.notables.items
+    let noted = noted_of_all input_of came_in words left noted_endings report.told.notables.items in
+    let found = found_labels unused (λ u. map (λ label. label.now) u.items) (unflagged terms report.told.begun) (labels_told terms None report.told.endings.items noted) report.cause c.unused_labels-unused.ensures
+    (λ none. labels_of_run input_of sight came_in (λ r. place_of (standing_of g.S.Read.remaining (λ (f : Bor g.row.F.Denot). g.F.Opener.known f.now) g.F.File.Read.remaining r.first.value)) (λ r. refl)
+    known config.files given names (map (sighted sight) sources) seen left terms form before.writer mid report.told.endings.items report.told.notables.items report.told.counts report.told.begun words noted_endings
+    (subst (λ (o : Option Cause). WasTold terms form (map (sighted sight) sources) (map (sighted sight) left) before.writer mid report.told.endings.items report.told.notables.items report.told.counts o) none c.run_all-report.ensures.told)
+    c.run_all-report.ensures.labels) in
+    let told = told_as input_of came_in g.F.Opener.holds (λ ns. map note_of ns.items) c.are_words.result words left noted_endings report.told.notables.items
     (c.are_words.ensures ∙ ap are_words asked_is) c.all_notes-notes.result
-    (subst (λ l. IfSome c.all_notes-notes.result (λ ns. AreNotes g.F.Opener.holds (noted_of_all input_of unused_in c.are_words.result l noted_endings report.told.notables.items) (map note_of ns.items))) c.deref-3.ensures.value c.all_notes-notes.ensures) in
+    (subst (λ l. IfSome c.all_notes-notes.result (λ ns. AreNotes g.F.Opener.holds (noted_of_all input_of came_in c.are_words.result l noted_endings report.told.notables.items) (map note_of ns.items))) c.deref.ensures.value c.all_notes-notes.ensures) in
     let notes : List Note = notes_on told.remarks in
     let text : List (List ℕ) → List Note → List ℕ = λ ls ns. summary_line_in form (options_with terms ls ns) report.told.counts in
-    let sums = summed_beside unused (λ u. map (λ label. label.now) u.items) c.all_notes-notes.result (λ ns. map note_of ns.items) text (labels_told None report.told.endings.items noted labels) notes
+    let sums = summed_beside unused (λ u. map (λ label. label.now) u.items) c.all_notes-notes.result (λ ns. map note_of ns.items) text (labels_told terms None report.told.endings.items noted) notes
     report.cause cause mid after found told.told c.sum_up_with-cause.ensures.summed in
-    let run = summed terms form (summary_line_in form (options_with terms (labels_told None report.told.endings.items noted labels) notes)) (map (sighted sight) sources) (map (sighted sight) left)
+    let run = summed terms form (summary_line_in form (options_with terms (labels_told terms None report.told.endings.items noted) notes)) (map (sighted sight) sources) (map (sighted sight) left)
     before.writer mid after report.told.endings.items report.told.notables.items report.told.counts report.cause cause c.run_all-report.ensures.told sums in
-    let labels_are_told = told_labels input_of unused_in unused (λ u. u.items) (λ label. label.now) c.told_after-told.result.now report.cause cause report.told.endings.items words left noted_endings report.told.notables.items labels
+    let labels_are_told = told_labels input_of came_in unused (λ u. u.items) (λ label. label.now) c.told_after-told.result.now report.cause cause terms report.told.endings.items words left noted_endings report.told.notables.items
     found c.sum_up_with-cause.ensures.known c.sum_up_with-cause.ensures.whole c.told_after-told.ensures.whole c.told_after-told.ensures.stopped in
     let lines_of : List Note → List ℕ = λ ns. note_texts on ns ++ label_lines on (map (λ label. label.now) c.told_after-told.result.now) in
     let lines = lines_told c.all_lines-lines.result (λ text. text.items) c.all_notes-notes.result (λ ns. map note_of ns.items) lines_of notes
     c.all_lines-lines.ensures.known c.all_lines-lines.ensures.lines told.told in
-    inl (judged input_of unused_in sight known g.F.Opener.can_fail g.F.Opener.holds config listed given _
+    inl (judged input_of came_in sight known g.F.Opener.can_fail g.F.Opener.holds config listed given _
     c.in-Ok.plan.terms.rules.limits names left (map (sighted sight) sources)
     before
     (record { writer = after; unflushed = c.args.output.now.unflushed.number })
@@ -101,10 +102,10 @@ returns g c =
     (λ i. record { rules = ruled c.in-Ok.plan.terms.rules.limits (c.in-Ok.ensures.except i) (c.in-Ok.ensures.end i); order = c.in-Ok.ensures.order i; explain = c.in-Ok.ensures.explain i; stop = c.in-Ok.ensures.stop i }) c.in-Ok.ensures.form c.in-Ok.ensures.limits
     named seen
     told.remarks told.are told.shown
-    (are_own input_of unused_in sight g.F.Opener.can_fail g.F.Opener.holds words
-    (λ source too_large fault. noted_by g.S.Read.remaining (λ f. g.F.Opener.known f.now) g.F.File.Read.remaining g.F.Opener.can_fail g.F.Opener.holds input_of unused_in source words too_large fault source.reader.first.value source.reader.given.bytes source.reader.faults.number source.reader.ends.number refl source.reader.led)
+    (are_own input_of came_in sight g.F.Opener.can_fail g.F.Opener.holds words
+    (λ source too_large fault. noted_by g.S.Read.remaining (λ f. g.F.Opener.known f.now) g.F.File.Read.remaining g.F.Opener.can_fail g.F.Opener.holds input_of came_in source words too_large fault source.reader.first.value source.reader.given.bytes source.reader.faults.number source.reader.ends.number refl source.reader.led)
     left noted_endings report.told.notables.items)
-    (left_by known labels config.files given names (map (sighted sight) left) (option_map (seen_within g.S.Read.remaining) c.in-Ok-sources_of.gathered.stdin) _
+    (left_by known config.files given names (map (sighted sight) left) (option_map (seen_within g.S.Read.remaining) c.in-Ok-sources_of.gathered.stdin) _
     (subst (λ (s : Sources). IsLeftBeside s given (option_map (seen_within g.S.Read.remaining) c.in-Ok-sources_of.gathered.stdin)) asked_is c.in-Ok-sources_of.ensures.left)
     (rest_kept (seen_within g.S.Read.remaining) c.in-Ok-sources_of.gathered.stdin c.left_beside.result c.left_beside.ensures.kept)
     (run.names ∙ ap (map whose) seen) named
@@ -115,7 +116,7 @@ returns g c =
       faults = c.flush-flushed.ensures.faults;
       unflushed = c.flush-flushed.ensures.unflushed ∙ ap (λ b. c.args.output.now.unflushed.number + (if b then 1 else 0)) (is_fault error_kind c.flush-flushed.result);
     })
-    (c.end_checked-end.ensures ∙ ap₂ (λ ns e. end_checked config.fail_unchecked ns e) c.deref-4.ensures.value c.end_after-end.ensures)
+    (c.end_checked-end.ensures ∙ ap₂ (λ ns e. end_checked config.fail_unchecked ns e) c.deref-2.ensures.value c.end_after-end.ensures)
     (subst (λ ls. Ends (note_texts on notes ++ label_lines on ls) c.end_checked-end.result (seen_by g.E.Write.contents c.args.errors.now) (seen_by g.E.Write.contents c.finish.new.errors) c.finish.result)
     labels_are_told (c.finish.ensures (lines_of notes) lines)))
 

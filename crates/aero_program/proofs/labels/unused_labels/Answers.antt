@@ -1,15 +1,13 @@
-use Rattle.std.proofs.Common.{◌∙◌, List, ℕ, ap, map}
-use Rattle.aero_program.specs.Traces.{unused_in}
-use Rattle.aero_program.specs.Notes.{missing_in_each}
-use Rattle.aero_program.proofs.Noting.{missing_of_none}
+use Rattle.std.proofs.Common.{◌≡◌, List, ℕ, Bool, if◌then◌else◌, [], map, not, sym, ◌∙◌, ap}
+use Rattle.std.specs.List.{filter}
+use Rattle.aero_model.specs.Exempt.{Listed}
+use Rattle.aero_program.specs.Labels.{is_flagged, unflagged, without_flag}
 use Rattle.aero_program.proofs.labels.unused_labels.Goals as goal
 
-pub returns-then-are_none : goal.returns-then-are_none
-returns-then-are_none g c =
-    let lists : List (List (List ℕ)) = map (λ s. unused_in s.reader) c.args.sources.now in
-    missing_of_none lists c.args.labels.now (map (λ label. label.now) c.in-Ok.all.items) c.in-Ok.ensures (c.are_none.ensures c.if-are_none.true)
-
-pub returns-in-Ok-missing_of_all : goal.returns-in-Ok-missing_of_all
-returns-in-Ok-missing_of_all g c =
-    let lists : List (List (List ℕ)) = map (λ s. unused_in s.reader) c.args.sources.now in
-    c.in-Ok-missing_of_all.ensures ∙ ap (missing_in_each lists) c.in-Ok.ensures
+pub returns-in-Ok : goal.returns-in-Ok
+returns-in-Ok c =
+    let terms = c.args.terms.now in
+    let flags = c.in-Some.begun.flags.items in
+    let told : unflagged terms c.args.begun.now ≡ filter (λ label. not (is_flagged terms.rules.labels.labels flags label)) terms.rules.labels.labels =
+    ap (λ (b : Bool). if b then [] else without_flag terms.rules.labels.labels c.args.begun.now) (sym c.stop.ensures ∙ c.if-stop.false) ∙ ap (without_flag terms.rules.labels.labels) c.in-Some.is in
+    c.in-Ok.ensures ∙ ap (λ (l : Listed). filter (λ label. not (is_flagged l.labels flags label)) l.labels) c.except.ensures ∙ sym told

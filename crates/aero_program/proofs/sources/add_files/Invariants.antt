@@ -12,4 +12,4 @@ invariant-loop-word g l =
     (map (λ s. s.name.items) l.sources.items ≡ map string_bytes (take l.word-index l.fn.words))
     × (map (λ s. standing_of g.S.Read.remaining (λ f. g.F.Opener.known f.now) g.F.File.Read.remaining (input_of s.reader)) l.sources.items ≡ map (unopened (g.F.Opener.known l.fn.files)) (map string_bytes (take l.word-index l.fn.words)))
     × (map (λ s. reason_of (input_of s.reader)) l.sources.items ≡ map (λ _. None) (map string_bytes (take l.word-index l.fn.words)))
-    × (map (sighted (sight_of g.S.Read.remaining (λ f. g.F.Opener.known f.now) g.F.File.Read.remaining)) l.sources.items ≡ sightings (file_made (g.F.Opener.known l.fn.files) l.fn.except.labels) (map string_bytes (take l.word-index l.fn.words)))
+    × (map (sighted (sight_of g.S.Read.remaining (λ f. g.F.Opener.known f.now) g.F.File.Read.remaining)) l.sources.items ≡ sightings (file_made (g.F.Opener.known l.fn.files)) (map string_bytes (take l.word-index l.fn.words)))

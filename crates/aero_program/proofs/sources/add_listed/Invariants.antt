@@ -12,7 +12,7 @@ invariant-loop-rest g l = record {
   names : map (λ s. s.name.items) l.sources.items ++ names_in l.rest ≡ names_in l.list;
   readers : map (λ s. standing_of g.S.Read.remaining (λ f. g.F.Opener.known f.now) g.F.File.Read.remaining (input_of s.reader)) l.sources.items ≡ map (listed_standing (g.F.Opener.known l.files)) (map (λ s. s.name.items) l.sources.items);
   reasons : map (λ s. reason_of (input_of s.reader)) l.sources.items ≡ map listed_reason (map (λ s. s.name.items) l.sources.items);
-  sighted : map (sighted (sight_of g.S.Read.remaining (λ f. g.F.Opener.known f.now) g.F.File.Read.remaining)) l.sources.items ≡ sightings (listed_made (g.F.Opener.known l.files) l.except.labels) (map (λ s. s.name.items) l.sources.items);
+  sighted : map (sighted (sight_of g.S.Read.remaining (λ f. g.F.Opener.known f.now) g.F.File.Read.remaining)) l.sources.items ≡ sightings (listed_made (g.F.Opener.known l.files)) (map (λ s. s.name.items) l.sources.items);
 }
 
 abbrev pub decreases-loop-rest : goal.decreases-loop-rest

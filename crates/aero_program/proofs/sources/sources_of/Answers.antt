@@ -21,15 +21,13 @@ pub returns-in_ok-sources-in-Files-clause-sighted : goal.returns-in_ok-sources-i
 returns-in_ok-sources-in-Files-clause-sighted g c =
     let known = g.F.Opener.known c.args.files.now in
     let given = g.S.Read.remaining c.args.stdin in
-    let labels = c.args.except.now.labels in
     let names : List (List ℕ) = map (λ s. s.name.items) c.in_ok-sources-in-Files.sources.items in
     let made = c.in_ok-sources-in-Files.ensures in
-    made.sighted ∙ ap (sightings (file_made known labels)) (sym made.names) ∙ ap (λ (s : Sources). source_sightings known labels s given names) (sym c.in-Files.is)
+    made.sighted ∙ ap (sightings (file_made known)) (sym made.names) ∙ ap (λ (s : Sources). source_sightings known s given names) (sym c.in-Files.is)
 
 pub returns-in-Listed-clause-sighted : goal.returns-in-Listed-clause-sighted
 returns-in-Listed-clause-sighted g c =
     let known = g.F.Opener.known c.args.files.now in
     let given = g.S.Read.remaining c.args.stdin in
-    let labels = c.args.except.now.labels in
     subst (λ (s : Sources). IfOk c.listed_at.result (λ made. map (sighted (sight_of g.S.Read.remaining (λ f. g.F.Opener.known f.now) g.F.File.Read.remaining)) made.sources.items
-    ≡ source_sightings known labels s given (map (λ s. s.name.items) made.sources.items))) (sym c.in-Listed.is) c.listed_at.ensures.sighted
+    ≡ source_sightings known s given (map (λ s. s.name.items) made.sources.items))) (sym c.in-Listed.is) c.listed_at.ensures.sighted

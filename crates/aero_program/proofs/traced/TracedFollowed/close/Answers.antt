@@ -8,5 +8,5 @@ invariant_of-self g c =
     record {
       led = merely_led_shut g.S.Read.remaining g.O.Opener.known g.O.File.Read.remaining g.O.Opener.can_fail g.O.Opener.holds
           was.first.value was.input close.new.self was.given.bytes was.faults.number was.ends.number
-          close.ensures.standing close.ensures.start close.ensures.reason close.ensures.opened close.ensures.watch was.led;
+          close.ensures.standing close.ensures.start close.ensures.reason close.ensures.opened was.led;
     }

@@ -17,8 +17,6 @@ invariant_of-self g c =
             opens = read.ensures.opened;
             starts = read.ensures.start;
             reasons = read.ensures.reason;
-            watched = read.ensures.watched;
-            sees = read.ensures.seen;
           })
           was.given.bytes c.with-self.result.bytes was.faults.number c.count_failure.new.faults.number was.ends.number c.count_end.new.ends.number
           (c.with-self.ensures ∙ ap (λ l. was.given.bytes ++ l) c.came.ensures) c.count_failure.ensures c.count_end.ensures was.led;

@@ -1,2 +1,0 @@
-pub mod Quiets
-pub mod Seen
