@@ -211,7 +211,6 @@ struct code *aero_code(word at);
 struct label *aero_label(const char *name);     /* of the name in Go's tables */
 bool aero_is_of_library(const char *label);
 bool aero_is_init(const char *label);
-bool aero_is_wrapper(const char *label, const char *file);
 bool aero_is_given_to(const struct label *starter, const struct label *value);    /* a function value of another package */
 /* Who asked, from the address on along the frames; *place is the first code that isn't of the runtime or of sync. */
 struct code *aero_asked(const struct here *here, word at, struct code **place);

@@ -91,11 +91,12 @@ static void wait_for_unlocker(struct goroutine *t, const struct sync *s, bool lo
     if (locks && s->unlocker && s->unlocker != t->id) aero_waits(t);
 }
 
-/* A lock as long as who has locked it unlocks it, and from then on a variable. */
+/* A lock as long as who has locked it unlocks it, and from then on a variable. One that is had twice was overwritten in the meantime, as
+ * by *s = state{}. */
 static void mutex(struct goroutine *t, word at, bool locks, const struct code *place) {
     struct sync *s = aero_sync(at);
-    bool hands_on = !locks && s->owner != t->id;
-    if (hands_on) {
+    bool hands_on = !locks && s->owner != t->id, was_overwritten = locks && s->owner;
+    if (hands_on || was_overwritten) {
         release_for_owner(s);
         s->is_handed = true;
     }
