@@ -133,7 +133,7 @@ static bool is_start(const struct goroutine *t, const struct code *function, str
     if (t->depth > 1 || is_deferred_by(function, first)) return false;
     if (aero_is_given_to(first->label, function->label)) return true;
     bool is_in_line = t->go && is_one_line(t->go, first) && (is_one_line(t->go, call) || is_one_line(t->go, function));
-    return is_in_line && aero_only_ends(call);
+    return is_in_line && !(call->is & IS_UNKNOWN) && aero_leads_to_end(call->at, false);
 }
 
 void aero_enter(const struct here *here, struct goroutine *t, word call_ends) {

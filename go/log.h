@@ -222,6 +222,9 @@ static inline bool aero_is_frame(const struct here *here, const word *frame, wor
     return (word)frame >= low && (word)frame + 16 <= here->g[1] && !((word)frame & 7);
 }
 
+/* instructions.c */
+bool aero_leads_to_end(word at, bool may_jump);    /* whether code does nothing but end its function */
+
 /* defers.c */
 bool aero_only_ends(struct code *from);
 bool aero_only_ends_follow(const struct here *here, word stack);
