@@ -96,6 +96,12 @@ void aero_end_early(struct goroutine *t, const struct here *here) {
     if (aero_only_ends_follow(here, here->g[1] - t->frames[outer].depth)) aero_split(t, false);
 }
 
+void aero_end_parked(struct goroutine *t) {
+    const word *sched = &t->g[aero_sched_of_g / 8];
+    const struct here there = {sched[0], t->g, (const word *)sched[aero_frame_of_sched / 8]};
+    if (aero_sched_of_g && aero_frame_of_sched) aero_end_early(t, &there);
+}
+
 /* ---- functions */
 
 /* The stack pointer of the function that a hook is of, and where the function goes on. runtime.racefuncenter is called by a wrapper

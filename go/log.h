@@ -202,6 +202,8 @@ bool aero_wants_blocks(void);                  /* there may be some */
 extern const char aero_packages[];             /* those of the standard library, each between two newlines */
 extern const int aero_select_send;             /* the line of select.go that sends into a buffer */
 extern const int aero_defers_of_g;             /* where a g has its latest _defer; 0: not known */
+extern const int aero_link_of_defer, aero_panics_of_g, aero_link_of_panic, aero_recovered_of_panic;    /* the last is 0 if they aren't known */
+extern const int aero_sched_of_g, aero_frame_of_sched;    /* where a g that doesn't run has its stack pointer; where its frame lies behind that */
 extern const int aero_closed_of_channel;       /* where a channel has whether it is closed */
 extern const int aero_writer_sem, aero_reader_sem;    /* where a RWMutex has these, by which it is known to the hooks */
 
@@ -259,6 +261,7 @@ void aero_begin_blocks(struct goroutine *t);
 void aero_leave(struct goroutine *t, size_t depth);
 void aero_split(struct goroutine *t, bool begins_again);
 void aero_end_early(struct goroutine *t, const struct here *here);
+void aero_end_parked(struct goroutine *t);     /* the same of one that has sent, while another one receives, and waits still */
 static inline void aero_waits(struct goroutine *t) {
     if (aero_settings.splits_waits) aero_split(t, true);
 }

@@ -98,6 +98,109 @@ func endAfterTests() {
 	}
 }
 
+// The sender waits for its receiver, who has the event of the send.
+func endBySendOf[T any](c chan T) {
+	var message T
+	flag.Add(1)
+	c <- message
+}
+func endBySelectOf[T any](c chan T) {
+	var message T
+	flag.Add(1)
+	select {
+	case c <- message:
+	case <-closing:
+	}
+}
+func endByDeferredSend[T any](c chan T) {
+	var message T
+	defer func() { c <- message }()
+	flag.Add(1)
+}
+func park[T any](end func(chan T), size int, how string) {
+	var message T
+	c := make(chan T, size)
+	for n := 0; n < size; n++ {
+		c <- message
+	}
+	go end(c)
+	blocked(1, how)
+	for n := 0; n <= size; n++ {
+		<-c
+	}
+}
+func parkOf[T any](size int) {
+	park(endBySendOf[T], size, "chan send")
+	park(endBySelectOf[T], size, "select")
+	park(endByDeferredSend[T], size, "chan send")
+}
+func endParked() {
+	for i := 0; i < 50; i++ {
+		for size := 0; size < 3; size++ {
+			parkOf[int](size)
+			parkOf[struct{}](size)
+		}
+	}
+}
+
+// A panic calls the function that recovers from it and has the last act, or that follows.
+func endByRecovered(c chan int) {
+	defer func() {
+		if recover() != nil {
+			flag.Add(1)
+		}
+		c <- 1
+	}()
+	deeper(3)
+}
+func endByThenClosed(c chan int) {
+	defer close(c)
+	defer func() { recover() }()
+	deeper(3)
+}
+func endByDeferred(c chan int) {
+	defer func() {
+		defer close(c)
+		recover()
+	}()
+	deeper(3)
+}
+
+// But this one has deferred a change, too.
+func sendThenChange(c chan int) {
+	n := flag.Load()
+	defer func() { mark(0); after(1); flag.Store(n + 1) }()
+	defer func() { recover(); c <- 1 }()
+	deeper(3)
+}
+func recoveredGoesOn() {
+	c := make(chan int, 1)
+	both(func() { sendThenChange(c) }, func() { changeBetween(flag.Store) })
+}
+
+// Receives as soon as there is something.
+func poll(c chan int) {
+	for {
+		select {
+		case <-c:
+			return
+		default:
+		}
+	}
+}
+func endRecovered() {
+	for i := 0; i < 400; i++ {
+		for _, run := range []func(chan int){endByRecovered, endByThenClosed, endByDeferred} {
+			c := make(chan int, 1)
+			go run(c)
+			poll(c)
+		}
+	}
+}
+
 func init() {
+	words["ends-recovered"] = endRecovered
+	words["recovered-goes-on"] = recoveredGoesOn
 	words["ends-after-tests"] = endAfterTests
+	words["ends-parked"] = endParked
 }
