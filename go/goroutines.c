@@ -44,8 +44,8 @@ static void close_block(struct goroutine *t) {
     if (!--t->open && !--aero_open_blocks) aero_last_calm = aero_now;
 }
 
-/* Whether the function does nothing but call Done, Lock or Unlock, as the one that the compiler makes for `defer both.Done()`. It is
- * no block, because it would have that one event only, and the program often ends before it does. */
+/* Whether the function does nothing but call Done, Lock or Unlock, as `func() { both.Done() }`, perhaps by wrappers. It is no block,
+ * because it would have that one event only, and the program often ends before it does. */
 static bool only_defers(const struct goroutine *t, size_t depth) {
     if (aero_starts_are_blocks()) return false;
     do {
