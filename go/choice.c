@@ -37,11 +37,11 @@ static bool is_usual(const char *label, const char *file) {
     return !aero_ends_with(file, "_test.go") && !strstr(file, "_testmain.go") && !aero_is_of_library(label);
 }
 
-/* Whether the compiler made the function: a wrapper, main.each-range1, the body of a loop over a function (Go 1.23), or
- * type..eq.main.Bank and type..hash.main.Bank (type:.eq. since Go 1.20), which compare and hash values. It is a part of a function that
- * has the label of the source. */
-static bool is_made_by_compiler(const char *label, const char *file) {
-    if (aero_is_wrapper(label, file) || begins(label, "type..") || begins(label, "type:.")) return true;
+/* Whether the compiler made the function: main.each-range1, the body of a loop over a function (Go 1.23), or type..eq.main.Bank and
+ * type..hash.main.Bank (type:.eq. since Go 1.20), which compare and hash values. It is a part of a function that has the label of the
+ * source, as is a wrapper (code.c). */
+static bool is_made_by_compiler(const char *label) {
+    if (begins(label, "type..") || begins(label, "type:.")) return true;
     const char *made = strrchr(label, '-');
     return made && begins(made, "-range") && made[6] && !made[6 + strspn(made + 6, "0123456789")];
 }
@@ -72,7 +72,7 @@ static bool is_chosen(const char *label, bool block) {
 }
 
 bool aero_is_block(const char *label, const char *file) {
-    if (begins(label, "runtime.") || begins(label, "internal/race.") || is_made_by_compiler(label, file)) return false;
+    if (begins(label, "runtime.") || begins(label, "internal/race.") || is_made_by_compiler(label)) return false;
     return is_chosen(label, base == ALL || (base == USUAL && is_usual(label, file)));
 }
 

@@ -11,37 +11,10 @@ static const struct defer *latest_defer(const struct here *here) {
 
 /* ---- code that only ends its function */
 
-/* The length of an instruction that does nothing, or moves a result between registers and the function's own frame; 0: another one.
- * Go's assembler puts nops of up to 9 bytes before a call. */
-static size_t idle_length(const unsigned char *at) {
-    const unsigned char *code = at;
-    while (*code == 0x66) code++;
-    if ((*code & 0xf0) == 0x40) code++;
-    if (*code == 0x90) return (size_t)(code + 1 - at);
-    bool is_nop = code[0] == 0x0f && code[1] == 0x1f, is_byte = code[0] == 0x0f && code[1] == 0xb6;
-    if (!is_nop && !is_byte && *code != 0x8b && *code != 0x89) return 0;
-    code += is_nop || is_byte ? 2 : 1;
-    unsigned mode = *code >> 6, base = *code & 7;
-    code++;
-    if (!is_nop && mode != 3 && (base != 4 || *code != 0x24)) return 0;
-    code += mode != 3 && base == 4;
-    return (size_t)(code + (mode == 1 ? 1 : mode == 2 ? 4 : 0) - at);
-}
-
-static bool looks_only_ends(const struct code *from) {
-    const unsigned char *code = (const unsigned char *)from->at;
-    int32_t distance;
-    if (from->is & IS_UNKNOWN) return false;
-    for (size_t length; (length = idle_length(code)) != 0;) code += length;
-    if (*code != 0xe8) return false;
-    memcpy(&distance, code + 1, sizeof distance);
-    return (aero_code((word)code + 6 + (word)(intptr_t)distance)->is & IS_HOOK) != 0;
-}
-
-/* Whether the code at the address does nothing but end its function: `call runtime.racefuncexit`. What isn't in a function of Go isn't
- * looked at: it may be no address, where a function in assembly has kept no frame. */
+/* Whether the code at the address does nothing but end its function. What isn't in a function of Go isn't looked at: it may be no
+ * address, where a function in assembly has kept no frame. */
 bool aero_only_ends(struct code *from) {
-    if (from->ends == UNSEEN) from->ends = looks_only_ends(from) ? ONLY_ENDS : GOES_ON;
+    if (from->ends == UNSEEN) from->ends = !(from->is & IS_UNKNOWN) && aero_leads_to_end(from->at, true) ? ONLY_ENDS : GOES_ON;
     return from->ends == ONLY_ENDS;
 }
 
@@ -53,16 +26,33 @@ static bool has_deferred(const struct here *here, word stack) {
     return aero_defers_of_g ? next && next->stack == stack : true;
 }
 
-/* Whether all that is left to do, up to the end of the function with that stack pointer, is to end. What sync and the runtime do
- * behind a release has no events, but for Cond.Wait. */
+/* The stack pointer of the function that has deferred what a panic calls, if that has recovered from the only panic, and the function has
+ * deferred nothing else, so that it only ends; or 0. */
+static word recovered(const struct here *here) {
+    const struct defer *of = latest_defer(here);
+    const char *panic = of && aero_recovered_of_panic ? (const char *)here->g[aero_panics_of_g / 8] : NULL;
+    if (!panic || !panic[aero_recovered_of_panic] || *(const word *)(panic + aero_link_of_panic)) return 0;
+    const struct defer *next = *(const struct defer *const *)((const char *)of + aero_link_of_defer);
+    return next && next->stack == of->stack ? 0 : of->stack;
+}
+
+/* Whether the function whose code is at the address has more to do. What sync and the runtime do behind a release has no events, but for
+ * Cond.Wait. */
+static bool goes_on(const struct here *here, struct code *code, word its_caller) {
+    if ((code->is & RETURNS_BY_DEFERRED) && has_deferred(here, its_caller)) return true;
+    return code->is & IS_LOW ? (code->is & (PANICS | IS_COND_WAIT)) != 0 : !aero_only_ends(code);
+}
+
+/* Whether all that is left to do, up to the end of the function with that stack pointer, is to end. What a panic has left is dead, up to
+ * the function that has recovered. */
 bool aero_only_ends_follow(const struct here *here, word stack) {
     const word *frame = here->frame;
-    word low = here->stack;
+    word low = here->stack, recovers = 0;
     for (int level = 0; level < 16 && aero_is_frame(here, frame, low); level++) {
         struct code *code = aero_code(frame[1]);
         word caller = (word)(frame + 2);
-        bool goes_on = code->is & IS_LOW ? (code->is & (PANICS | IS_COND_WAIT)) != 0 : !aero_only_ends(code);
-        if (goes_on || ((code->is & RETURNS_BY_DEFERRED) && has_deferred(here, frame[0] + 16))) return false;
+        if (code->is & PANICS) recovers = recovered(here);
+        if (caller > recovers && goes_on(here, code, frame[0] + 16)) return false;
         if (caller >= stack) return caller == stack;
         low = (word)frame;
         frame = (const word *)frame[0];

@@ -44,8 +44,8 @@ static void close_block(struct goroutine *t) {
     if (!--t->open && !--aero_open_blocks) aero_last_calm = aero_now;
 }
 
-/* Whether the function does nothing but call Done, Lock or Unlock, as the one that the compiler makes for `defer both.Done()`. It is
- * no block, because it would have that one event only, and the program often ends before it does. */
+/* Whether the function does nothing but call Done, Lock or Unlock, as `func() { both.Done() }`, perhaps by wrappers. It is no block,
+ * because it would have that one event only, and the program often ends before it does. */
 static bool only_defers(const struct goroutine *t, size_t depth) {
     if (aero_starts_are_blocks()) return false;
     do {
@@ -96,6 +96,12 @@ void aero_end_early(struct goroutine *t, const struct here *here) {
     if (aero_only_ends_follow(here, here->g[1] - t->frames[outer].depth)) aero_split(t, false);
 }
 
+void aero_end_parked(struct goroutine *t) {
+    const word *sched = &t->g[aero_sched_of_g / 8];
+    const struct here there = {sched[0], t->g, (const word *)sched[aero_frame_of_sched / 8]};
+    if (aero_sched_of_g && aero_frame_of_sched) aero_end_early(t, &there);
+}
+
 /* ---- functions */
 
 /* The stack pointer of the function that a hook is of, and where the function goes on. runtime.racefuncenter is called by a wrapper
@@ -113,21 +119,27 @@ static bool is_one_line(const struct code *one, const struct code *other) {
     return one->line == other->line && !strcmp(one->place, other->place);
 }
 
+/* Whether the compiler made the function for a defer statement of the other one, in which it is a literal. */
+static bool is_deferred_by(const struct code *function, const struct code *other) {
+    const struct label *of = other->label;
+    return (function->is & IS_WRAPPER) && !strncmp(function->label->text, of->text, of->length) && function->label->text[of->length] == '.';
+}
+
 /* What a goroutine starts with is no block. Besides its first function that is
- *   - f of `go f(x)`, for which the compiler makes a function, in the line of the go statement, that calls f and does nothing behind
- *     it. The call is in that line too, or f is a literal that begins there. (So does `go func() { f(x) }()` in one line.)
- *   - f that a wrapper calls, as that of a method value x.f
+ *   - f that a wrapper calls, as that of `go f(x)`, or of a method value x.f
+ *   - f of `go func() { f(x) }()` in one line, which does nothing behind the call. The call is in that line too, or f is a literal that
+ *     begins there
  *   - a literal or a method value that a function of another package starts with, as that of errgroup's Go does. */
 static bool is_start(const struct goroutine *t, const struct code *function, struct code *call) {
     if (!t->depth) return true;
     const struct frame *before = &t->frames[t->depth - 1];
     const struct code *first = before->function;
     if (!before->is_start) return false;
-    if (first->is & IS_WRAPPER) return aero_only_ends(call);
-    if (t->depth > 1) return false;
+    if (first->is & IS_WRAPPER) return call->label == first->label;
+    if (t->depth > 1 || is_deferred_by(function, first)) return false;
     if (aero_is_given_to(first->label, function->label)) return true;
-    bool is_made = t->go && is_one_line(t->go, first) && (is_one_line(t->go, call) || is_one_line(t->go, function));
-    return is_made && aero_only_ends(call);
+    bool is_in_line = t->go && is_one_line(t->go, first) && (is_one_line(t->go, call) || is_one_line(t->go, function));
+    return is_in_line && !(call->is & IS_UNKNOWN) && aero_leads_to_end(call->at, false);
 }
 
 void aero_enter(const struct here *here, struct goroutine *t, word call_ends) {

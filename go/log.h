@@ -202,6 +202,8 @@ bool aero_wants_blocks(void);                  /* there may be some */
 extern const char aero_packages[];             /* those of the standard library, each between two newlines */
 extern const int aero_select_send;             /* the line of select.go that sends into a buffer */
 extern const int aero_defers_of_g;             /* where a g has its latest _defer; 0: not known */
+extern const int aero_link_of_defer, aero_panics_of_g, aero_link_of_panic, aero_recovered_of_panic;    /* the last is 0 if they aren't known */
+extern const int aero_sched_of_g, aero_frame_of_sched;    /* where a g that doesn't run has its stack pointer; where its frame lies behind that */
 extern const int aero_closed_of_channel;       /* where a channel has whether it is closed */
 extern const int aero_writer_sem, aero_reader_sem;    /* where a RWMutex has these, by which it is known to the hooks */
 
@@ -211,7 +213,6 @@ struct code *aero_code(word at);
 struct label *aero_label(const char *name);     /* of the name in Go's tables */
 bool aero_is_of_library(const char *label);
 bool aero_is_init(const char *label);
-bool aero_is_wrapper(const char *label, const char *file);
 bool aero_is_given_to(const struct label *starter, const struct label *value);    /* a function value of another package */
 /* Who asked, from the address on along the frames; *place is the first code that isn't of the runtime or of sync. */
 struct code *aero_asked(const struct here *here, word at, struct code **place);
@@ -222,6 +223,9 @@ struct label *aero_allocator(const struct here *here);
 static inline bool aero_is_frame(const struct here *here, const word *frame, word low) {
     return (word)frame >= low && (word)frame + 16 <= here->g[1] && !((word)frame & 7);
 }
+
+/* instructions.c */
+bool aero_leads_to_end(word at, bool may_jump);    /* whether code does nothing but end its function */
 
 /* defers.c */
 bool aero_only_ends(struct code *from);
@@ -257,6 +261,7 @@ void aero_begin_blocks(struct goroutine *t);
 void aero_leave(struct goroutine *t, size_t depth);
 void aero_split(struct goroutine *t, bool begins_again);
 void aero_end_early(struct goroutine *t, const struct here *here);
+void aero_end_parked(struct goroutine *t);     /* the same of one that has sent, while another one receives, and waits still */
 static inline void aero_waits(struct goroutine *t) {
     if (aero_settings.splits_waits) aero_split(t, true);
 }

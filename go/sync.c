@@ -91,11 +91,12 @@ static void wait_for_unlocker(struct goroutine *t, const struct sync *s, bool lo
     if (locks && s->unlocker && s->unlocker != t->id) aero_waits(t);
 }
 
-/* A lock as long as who has locked it unlocks it, and from then on a variable. */
+/* A lock as long as who has locked it unlocks it, and from then on a variable. One that is had twice was overwritten in the meantime, as
+ * by *s = state{}. */
 static void mutex(struct goroutine *t, word at, bool locks, const struct code *place) {
     struct sync *s = aero_sync(at);
-    bool hands_on = !locks && s->owner != t->id;
-    if (hands_on) {
+    bool hands_on = !locks && s->owner != t->id, was_overwritten = locks && s->owner;
+    if (hands_on || was_overwritten) {
         release_for_owner(s);
         s->is_handed = true;
     }
@@ -175,6 +176,12 @@ static bool is_last(const struct ordered *it) {
     return it->asker->asker != CHANNEL_SEND || !aero_settings.both_ways;
 }
 
+/* Whether the goroutine has waited for who receives now. The runtime calls the hooks of both, and holds the channel's lock meanwhile, so
+ * the goroutine and its stack stay where they are. */
+static bool is_of_parked_sender(const struct here *here, const struct goroutine *t, const struct ordered *it) {
+    return it->how != ACQUIRE && it->asker->asker == CHANNEL_RECEIVE && t->g && t->g != here->g;
+}
+
 void aero_order(const struct here *here, struct goroutine *t, word at, enum order how) {
     struct code *place;
     const struct code *asker = aero_asked(here, *(const word *)here->stack, &place);
@@ -188,5 +195,6 @@ void aero_order(const struct here *here, struct goroutine *t, word at, enum orde
     else if (asker->asker >= CHANNEL_SEND) aero_channel(t, &it);
     else other(t, &it);
     wait_if_unlocked(here, t, &it);
-    if (is_last(&it)) aero_end_early(t, here);
+    if (is_of_parked_sender(here, t, &it)) aero_end_parked(t);
+    else if (is_last(&it)) aero_end_early(t, here);
 }

@@ -14,6 +14,8 @@ KINDS = [
     Kind("a function value", "func $f() $whole", "{ f := $f; f() }", r"main\.$f"),
     Kind("a deferred function", "func $f() $whole\nfunc ${f}_defers() { defer $f() }", "${f}_defers()", r"main\.$f"),
     Kind("a generic function", "func $f[A any](a A) $whole", '$f("a")', r"main\.$f\[.*\]"),
+    Kind("a value of a generic function", "func $f[A any](a A) $whole", '{ f := $f[string]; f("a") }', r"main\.$f\[.*\]"),
+    Kind("a method value of a generic type", "type $k[A any] struct { a A }\nfunc (it *$k[A]) $f() $whole", "{ f := (&$k[int]{}).$f; f() }", r"main\.\(\*$k\[.*\]\)\.$f"),
     Kind("a method", METHOD, "(&$k{}).$f()", BY_POINTER), Kind("a method of a value", "type $k struct { a int }\nfunc (it $k) $f() $whole", "$k{}.$f()", r"main\.$k\.$f"),
     Kind("a method of an interface", METHOD + "\ntype i$k interface { $f() }", "i$k(&$k{}).$f()", BY_POINTER),
     Kind("a method value", METHOD, "{ f := (&$k{}).$f; f() }", BY_POINTER),
