@@ -165,6 +165,7 @@ void aero_release_all(void) {
 
 /* A process that ends between the line and what is noted releases nothing that it hasn't acquired, and nothing twice. */
 void aero_hold(uintptr_t lock, enum holding how, uintptr_t code) {
+    if (UNLIKELY(aero_is_of_contained_cpp(lock))) return;
     if (how == MUTEX && UNLIKELY(!takes_mutex(lock))) {
         handed_line(lock, code);
         return;
@@ -176,6 +177,7 @@ void aero_hold(uintptr_t lock, enum holding how, uintptr_t code) {
 /* How the thread held what it is about to give back. A lock that nobody is known to hold, as one that was taken before the log
  * began, isn't released there. */
 enum holding aero_release(uintptr_t lock, uintptr_t code) {
+    if (UNLIKELY(aero_is_of_contained_cpp(lock))) return 0;
     enum holding how = let_go(lock);
     if ((how == MUTEX || !how) && UNLIKELY(!gives_mutex(lock))) {
         handed_line(lock, code);
@@ -192,7 +194,7 @@ uintptr_t aero_last_mutex(void) {
 }
 
 /* Locks that the C++ library has for variables of its own, as for the program's locale, of which each stream takes a copy: no program
- * counts on their order. */
+ * counts on their order. (aero_hold knows those that the program contains) */
 static bool is_of_library(uintptr_t lock) { return aero_is_of_condition() || aero_is_of_cpp_library(lock); }
 
 void aero_acquired(uintptr_t lock, enum holding how, uintptr_t code) {

@@ -277,14 +277,17 @@ void aero_names_start(void);
 void aero_library_loaded(uintptr_t code);             /* that has code there: its names are read */
 bool aero_is_loaded(const char *file, size_t length); /* whether that of a library is called so */
 bool aero_is_of_unwinder(uintptr_t code);             /* or of what C++ has for locales */
-/* The files of the C++ library, with their variables: libc++ has libc++abi beside it. */
+/* The files of the C++ library, with their variables: libc++ has libc++abi beside it, and either has an unwinder. */
+enum { FILES_OF_CPP = 5 };
 struct file_of_cpp { _Atomic uintptr_t low, bytes; };
-extern struct file_of_cpp aero_cpp, aero_cpp_abi;
-static inline bool aero_is_in_file(const struct file_of_cpp *file, uintptr_t at) {
-    uintptr_t low = atomic_load_explicit(&file->low, memory_order_relaxed);
-    return UNLIKELY(at - low < atomic_load_explicit(&file->bytes, memory_order_relaxed));
+extern struct file_of_cpp aero_files_of_cpp[FILES_OF_CPP];
+static inline bool aero_is_of_cpp_library(uintptr_t at) {
+    for (const struct file_of_cpp *file = aero_files_of_cpp; file < aero_files_of_cpp + FILES_OF_CPP; file++) {
+        uintptr_t low = atomic_load_explicit(&file->low, memory_order_relaxed);
+        if (UNLIKELY(at - low < atomic_load_explicit(&file->bytes, memory_order_relaxed))) return true;
+    }
+    return false;
 }
-static inline bool aero_is_of_cpp_library(uintptr_t at) { return aero_is_in_file(&aero_cpp, at) || aero_is_in_file(&aero_cpp_abi, at); }
 void aero_lock_names(void);
 void aero_unlock_names(void);
 const struct code *aero_code(uintptr_t at);           /* NULL where memory is refused */
@@ -295,10 +298,14 @@ void aero_each_function(const char *file, bool (*each)(const char *label, const 
 char *aero_put_hex(char *to, uintptr_t number);
 char *aero_put_text(char *to, const char *text);
 char *aero_put_variable(char *to, uintptr_t address);
+/* Whether the byte is of a variable that the C++ library has for itself, and the program contains. */
+bool aero_is_of_contained_cpp(uintptr_t address);
 /* Where the global variable that has the byte begins and ends; 0 and UINTPTR_MAX where there is none. */
 void aero_symbol_bounds(uintptr_t address, uintptr_t *from, uintptr_t *to);
 
 /* labels.c */
+/* Whether the C++ library calls a variable of its own by the symbol. */
+bool aero_is_symbol_of_cpp(const char *symbol);
 /* Puts the name of the symbol as the log has it, of at most `most` bytes, with a byte 0 behind it. */
 void aero_put_label(char *to, const char *symbol, bool is_function, size_t most);
 char aero_fitting(char byte);        /* the byte, or ! for one that the format doesn't have in a name */
@@ -309,6 +316,7 @@ struct symbol {
     const char *name;
     bool several;            /* others have the name too */
     bool again;              /* others were there before, and are gone */
+    bool is_of_cpp;          /* it is the C++ library's own */
 };
 struct table {
     struct symbol *symbols;  /* in the order of their addresses, no two at one */
