@@ -26,9 +26,10 @@
 _Static_assert(sizeof(uintptr_t) == 8, "addresses have 64 bits");
 #define LIKELY(condition) __builtin_expect(!!(condition), 1)
 #define UNLIKELY(condition) __builtin_expect(!!(condition), 0)
-/* Where the caller of the function goes on, and where its stack ends at the call. */
-#define HERE ((uintptr_t)__builtin_return_address(0))
+/* Where the caller of the function goes on, and where its stack ends at the call. By HERE, what others have left without a hook ends. */
+#define CALL ((uintptr_t)__builtin_return_address(0))
 #define FRAME ((uintptr_t)__builtin_dwarf_cfa())
+#define HERE (aero_come_from(FRAME), CALL)
 
 /* The next function of that name behind the program's own: that of the C library. All are looked up at the start, since a signal
  * handler or a child of vfork() may be the first to call one; a library that comes later has its own looked up by who calls them. */
@@ -91,6 +92,9 @@ struct thread {
     size_t leading;          /* so many frames, from the first one, are functions of the runtime */
     uintptr_t outside;       /* in a function of the runtime: where code that isn't of it has called that; else 0 */
     size_t handler;          /* in a signal handler: one more than the frames that were there before; else 0 */
+    uintptr_t handler_at;    /* the handler's frames lie below */
+    uintptr_t low, high;     /* where its own stack lies; 0: it isn't known */
+    uintptr_t top;           /* that of the last frame, if it is of the own stack, and else 0; without frames the highest address */
     struct held few[FEW_HELD], *held;    /* the first ones, and those behind them */
     size_t holds, held_room;
     struct locking locking;
@@ -384,6 +388,11 @@ bool aero_starts_are_blocks(void);                    /* whether the functions a
 extern bool aero_has_entered;                         /* a function that has hooks */
 extern bool aero_has_begun;                           /* a block */
 void aero_left(uintptr_t frame);                      /* ends the blocks of functions below the frame */
+void aero_may_have_left(uintptr_t frame);             /* the same, where the frame shows that these have ended without a hook */
+/* Of what the program does in a function whose frame ends there: others may have been left by __builtin_longjmp. */
+static inline void aero_come_from(uintptr_t frame) {
+    if (UNLIKELY(frame > aero_me.top)) aero_may_have_left(frame);
+}
 void aero_end_blocks(void);                           /* ends all of the calling thread's; the log's lock is held */
 void aero_forget_blocks(void);                        /* as the log that they began in isn't written here */
 void aero_split_blocks(bool begins);                  /* ends them where they are to be split, and then begins them again */
