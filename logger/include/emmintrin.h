@@ -1,0 +1,4 @@
+/* Stands before the header of the same name of the compiler: what its functions do by a pointer has hooks. */
+#pragma GCC system_header
+#include_next <emmintrin.h>
+#include <aerodrome/sse2.h>

@@ -1,0 +1,6 @@
+/* Stands before the header of the same name of the compiler: what its functions do by a pointer has hooks. */
+#pragma GCC system_header
+#include_next <immintrin.h>
+#include <aerodrome/avx.h>
+#include <aerodrome/gather.h>
+#include <aerodrome/numbers.h>
