@@ -4,21 +4,23 @@
 #define AERODROME_AVX
 #include <aerodrome/function.h>
 
-AERODROME_FUNCTION("avx") void aerodrome_mm256_stream_si256(__m256i *to, __m256i value) {
-    *(__m256i *)to = value;
+/* (clang has no hooks for an access to 32 bytes) */
+AERODROME_FUNCTION("avx") void aerodrome_put_halves(void *to, __v4di value) {
+    __m128i_u *halves = (__m128i_u *)to;
+    halves[0] = (__m128i_u)(__v2di){value[0], value[1]};
+    halves[1] = (__m128i_u)(__v2di){value[2], value[3]};
 }
-AERODROME_FUNCTION("avx") void aerodrome_mm256_stream_pd(double *to, __m256d value) {
-    *(__m256d *)to = value;
+AERODROME_FUNCTION("avx") __m256i aerodrome_halves_at(const void *from) {
+    const __m128i_u *halves = (const __m128i_u *)from;
+    __v2di low = (__v2di)halves[0], high = (__v2di)halves[1];
+    return (__m256i)(__v4di){low[0], low[1], high[0], high[1]};
 }
-AERODROME_FUNCTION("avx") void aerodrome_mm256_stream_ps(float *to, __m256 value) {
-    *(__m256 *)to = value;
-}
-AERODROME_FUNCTION("avx") __m256i aerodrome_mm256_lddqu_si256(const __m256i *from) {
-    return _mm256_loadu_si256((const __m256i_u *)from);
-}
-AERODROME_FUNCTION("avx2") __m256i aerodrome_mm256_stream_load_si256(const void *from) {
-    return *(const __m256i *)from;
-}
+
+AERODROME_FUNCTION("avx") void aerodrome_mm256_stream_si256(__m256i *to, __m256i value) { aerodrome_put_halves(to, (__v4di)value); }
+AERODROME_FUNCTION("avx") void aerodrome_mm256_stream_pd(double *to, __m256d value) { aerodrome_put_halves(to, (__v4di)value); }
+AERODROME_FUNCTION("avx") void aerodrome_mm256_stream_ps(float *to, __m256 value) { aerodrome_put_halves(to, (__v4di)value); }
+AERODROME_FUNCTION("avx") __m256i aerodrome_mm256_lddqu_si256(const __m256i *from) { return aerodrome_halves_at(from); }
+AERODROME_FUNCTION("avx2") __m256i aerodrome_mm256_stream_load_si256(const void *from) { return aerodrome_halves_at(from); }
 AERODROME_FUNCTION("avx") __m128 aerodrome_mm_broadcast_ss(const float *from) {
     float value = *(const aerodrome_float *)from;
     return (__m128){value, value, value, value};
