@@ -64,6 +64,7 @@ enum holding { MUTEX = 1, READER, WRITER };
 struct held {
     uintptr_t lock;
     enum holding how;
+    uint32_t generation;             /* of the memory there */
 };
 enum { FEW_HELD = 16 };
 
@@ -347,7 +348,7 @@ uint16_t *aero_parts_at(uintptr_t address);
 enum { AERO_PIECE = 4 };
 void aero_renew(uintptr_t from, uintptr_t to);        /* what lies there is new variables, in whole pieces of so many bytes */
 uint32_t aero_generation(uintptr_t address);          /* how often it was renewed */
-uintptr_t aero_step(uintptr_t address);               /* and, with it, how many bytes: AERO_PIECE or more */
+uintptr_t aero_step(uintptr_t address);               /* and, with it, how many bytes from there on: AERO_PIECE or more */
 void aero_mark_stack(uintptr_t low, uintptr_t high);  /* accesses to its pages are noted */
 
 /* stacks.c */

@@ -105,7 +105,8 @@ uint32_t aero_generation(uintptr_t address) {
 
 uintptr_t aero_step(uintptr_t address) {
     struct leaf *leaf = leaf_of(address, false);
-    return leaf && pieces_of(leaf, address, false) ? AERO_PIECE : 1 << UNIT_BITS;
+    if (!leaf) return (1 << LEAF_BITS) - (address & ((1 << LEAF_BITS) - 1));
+    return pieces_of(leaf, address, false) ? AERO_PIECE : 1 << UNIT_BITS;
 }
 
 /* Renews pieces of one unit. */
