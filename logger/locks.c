@@ -114,13 +114,15 @@ void aero_forget_locks(void) {
     aero_me.holds = 0;
 }
 
-static void tell_of_handed(uintptr_t lock) {
+static void tell_of_handed(uintptr_t lock, bool locks) {
     static bool is_told;
     char name[MOST_NAME + 64];
     if (is_told) return;
     is_told = true;
     *aero_put_variable(name, lock) = 0;
-    aero_say(name, "a thread unlocks the mutex that another one has locked: the log has w(..handed) for it from here on");
+    aero_say(name, locks ? "a thread locks the mutex that another one holds in the log, as if it were made anew: the log has w(..handed) for it "
+                           "from here on"
+                         : "a thread unlocks the mutex that another one has locked: the log has w(..handed) for it from here on");
 }
 static void handed_line(uintptr_t lock, uintptr_t code) {
     char name[MOST_NAME + 64];
@@ -135,7 +137,7 @@ static bool takes_mutex(uintptr_t lock) {
     else if (it->owner == aero_me.number) it->times++;
     else if (it->owner != HANDED) {
         it->owner = HANDED;
-        tell_of_handed(lock);
+        tell_of_handed(lock, true);
     }
     return !it || it->owner != HANDED;
 }
@@ -148,7 +150,7 @@ static bool gives_mutex(uintptr_t lock) {
         if (!--it->times) forget_holder(it);
         return true;
     }
-    if (it->owner != HANDED) tell_of_handed(lock);
+    if (it->owner != HANDED) tell_of_handed(lock, false);
     it->owner = HANDED;
     return false;
 }
