@@ -10,9 +10,9 @@ enum { SEQUENTIAL = __ATOMIC_SEQ_CST };
 #define LOGGED(bytes, operation, at, work) \
     aero_may_be_cancelled(); \
     aero_may_stir(); \
+    aero_come_from(FRAME); \
     if (!aero_enter()) { work; } \
     else { \
-        if (UNLIKELY(aero_me.jumped)) aero_left(FRAME); \
         aero_lock(); \
         bool locks = aero_me.locking.what != NO_LOCK_CALL, gives = UNLIKELY(locks) && aero_gives_back((uintptr_t)(at), HERE); \
         work; \

@@ -40,10 +40,18 @@ static void after_once(const struct once *mine, struct once *before) {
     running = before;
     if (!mine->ran) aero_event("r", "once.", mine->once, mine->code);
 }
-/* The unwinder and the locales of C++ make tables for themselves so, for whichever thread is first: no program counts on that. */
+/* The unwinder and the C++ library make tables for themselves so, for whichever thread is first: no program counts on that. */
+static bool is_of_cpp(uintptr_t once, uintptr_t code) {
+    if (aero_is_of_unwinder(code) || !aero_enter()) return true;
+    aero_lock();
+    bool is_contained = aero_is_of_contained_cpp(once);
+    aero_unlock();
+    aero_leave();
+    return is_contained;
+}
 EXPORT int pthread_once(pthread_once_t *once, void (*routine)(void)) {
     REAL(int, pthread_once, pthread_once_t *, void (*)(void))
-    if (atomic_load_explicit(&aero_state, memory_order_relaxed) != ON || aero_is_of_unwinder(HERE)) return real(once, routine);
+    if (atomic_load_explicit(&aero_state, memory_order_relaxed) != ON || is_of_cpp((uintptr_t)once, HERE)) return real(once, routine);
     struct once mine = {routine, (uintptr_t)once, HERE, 0}, *before = running;
     int result = pthread_once_logged(once, &mine);
     after_once(&mine, before);

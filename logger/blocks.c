@@ -3,6 +3,7 @@
 
 #include <setjmp.h>
 #include <string.h>
+#include <ucontext.h>
 
 /* Of a frame's block, in the log: it was split where it waits, and is to begin again. */
 enum { CLOSED, OPEN, SPLIT };
@@ -42,6 +43,12 @@ static void note_outside(struct thread *me, const struct frame *top, bool is_run
     else if (!me->outside && me->depth) me->outside = top->call;
 }
 
+static bool is_own(const struct thread *me, uintptr_t at) { return at - me->low < me->high - me->low; }
+static void note_top(struct thread *me) {
+    uintptr_t at = me->depth ? me->frames[me->depth - 1].at : UINTPTR_MAX;
+    me->top = !me->depth || is_own(me, at) ? at : 0;
+}
+
 /* What a frame says of its begin changes where the line is written: a signal handler may leave from anywhere by longjmp. A process
  * that ends between the two writes no end that has no begin. */
 static void push(const struct code *function, uintptr_t frame, uintptr_t call) {
@@ -54,6 +61,7 @@ static void push(const struct code *function, uintptr_t frame, uintptr_t call) {
     *top = (struct frame){frame, function, call, me->outside, CLOSED};
     if (UNLIKELY(kind & IS_RUNTIME || me->outside)) note_outside(me, top, kind & IS_RUNTIME);
     me->depth++;
+    note_top(me);
     if (is_block) {
         aero_lock();
         aero_line("begin", "", 0, function->label, call);
@@ -76,6 +84,7 @@ static void pop(uintptr_t code) {
     me->outside = top->outside;
     me->depth--;
     if (me->leading > me->depth) me->leading = me->depth;
+    note_top(me);
 }
 
 /* Stacks grow down: a function's frames lie below those of who called it. */
@@ -84,12 +93,41 @@ void aero_left(uintptr_t frame) {
     while (me->depth && me->frames[me->depth - 1].at < frame) pop(0);
 }
 
+/* How many frames a signal handler that goes on has found: they are those of what it has interrupted, and its own stack may lie
+ * anywhere. One that doesn't go on was left, with its frames. */
+static size_t found_by_handler(struct thread *me, uintptr_t frame) {
+    size_t found = me->handler ? me->handler - 1 : 0;
+    if (!me->handler || (is_own(me, me->handler_at) && frame <= me->handler_at)) return found;
+    while (me->depth > found) pop(0);
+    me->handler = 0;
+    return 0;
+}
+static void leave_what_ended(struct thread *me, uintptr_t frame) {
+    if (!is_own(me, frame)) {
+        if (me->jumped) aero_left(frame);
+        return;
+    }
+    size_t kept = found_by_handler(me, frame);
+    while (me->depth > kept && me->frames[me->depth - 1].at < frame && is_own(me, me->frames[me->depth - 1].at)) pop(0);
+}
+void aero_may_have_left(uintptr_t frame) {
+    if (!aero_me.depth || !aero_enter()) return;
+    leave_what_ended(&aero_me, frame);
+    aero_leave();
+}
+
 /* Where the frame of the function begins that has called this one: as the wrapper has it, it has a frame pointer. */
 #ifdef __x86_64__
 #define CALLERS_FRAME (*(const uintptr_t *)__builtin_frame_address(0) + 2 * sizeof(uintptr_t))
 #else
 #define CALLERS_FRAME 0
 #endif
+/* A function was entered that returns to `caller`, and whose frame lies from `low` up to `high`, if it has a frame pointer. The frames of
+ * functions that go on lie above. */
+static void enter_from(struct thread *me, uintptr_t low, uintptr_t high, uintptr_t caller) {
+    bool is_frame = low < high && high <= me->high && is_own(me, low) && ((const uintptr_t *)high)[-1] == caller;
+    leave_what_ended(me, is_frame ? high : low + 1);
+}
 /* The function is left, whose frame ends at `low`. Above lies that of its caller. */
 static void renew_frame(uintptr_t low, uintptr_t high) {
     const struct thread *me = &aero_me;
@@ -103,17 +141,17 @@ bool aero_has_entered;
 EXPORT void __tsan_func_entry(void *caller) {
     aero_may_be_cancelled();
     if (!aero_enter()) return;
-    if (UNLIKELY(aero_me.jumped)) aero_left(FRAME + 1);
+    if (UNLIKELY(CALLERS_FRAME > aero_me.top || FRAME >= aero_me.top)) enter_from(&aero_me, FRAME, CALLERS_FRAME, (uintptr_t)caller);
     if (UNLIKELY(!aero_has_entered)) aero_has_entered = true;
-    push(aero_function(HERE), FRAME, aero_me.depth ? (uintptr_t)caller : HERE);
+    push(aero_function(CALL), FRAME, aero_me.depth ? (uintptr_t)caller : CALL);
     bool begins = UNLIKELY(aero_stirs) && aero_me.depth && aero_me.frames[aero_me.depth - 1].block == OPEN;
     aero_leave();
     if (UNLIKELY(begins)) aero_may_stir();
 }
 EXPORT void __tsan_func_exit(void) {
+    aero_come_from(FRAME);
     if (!aero_enter()) return;
-    if (UNLIKELY(aero_me.jumped)) aero_left(FRAME);
-    if (aero_me.depth) pop(HERE);
+    if (aero_me.depth) pop(CALL);
     if (aero_is_noted(aero_me.stack)) renew_frame(FRAME, CALLERS_FRAME);
     aero_leave();
 }
@@ -128,6 +166,7 @@ void aero_end_blocks(void) {
     }
     me->leading = 0;
     me->outside = 0;
+    note_top(me);
 }
 
 void aero_forget_blocks(void) {
@@ -228,3 +267,42 @@ JUMP(longjmp, jmp_buf)
 JUMP(_longjmp, jmp_buf)
 JUMP(siglongjmp, sigjmp_buf)
 JUMP(__longjmp_chk, jmp_buf)
+
+/* ---- contexts */
+
+/* Where the stack ends that the context goes on with; 0: it isn't known. */
+static uintptr_t stack_of_context(const ucontext_t *to) {
+#ifdef __x86_64__
+    return (uintptr_t)to->uc_mcontext.gregs[REG_RSP];
+#else
+    (void)to;
+    return 0;
+#endif
+}
+
+/* Back to a function that has called this one it is a jump. Else blocks would be those of several stacks. */
+static void goes_to(const ucontext_t *to, uintptr_t frame, bool returns) {
+    uintptr_t stack = stack_of_context(to);
+    aero_me.aborts = 0;
+    if (aero_me.busy) aero_interrupted();
+    if (!aero_enter()) return;
+    if (!returns && is_own(&aero_me, stack) && (!is_own(&aero_me, frame) || stack >= frame)) {
+        aero_me.handler = 0;
+        leave_until(stack);
+    } else {
+        aero_lock();
+        aero_stop(CUT_FIBER, "the program switches to another stack (setcontext, swapcontext)");
+        aero_unlock();
+    }
+    aero_leave();
+}
+EXPORT int setcontext(const ucontext_t *to) {
+    REAL(int, setcontext, const ucontext_t *)
+    goes_to(to, FRAME, false);
+    return real(to);
+}
+EXPORT int swapcontext(ucontext_t *from, const ucontext_t *to) {
+    REAL(int, swapcontext, ucontext_t *, const ucontext_t *)
+    goes_to(to, FRAME, true);
+    return real(from, to);
+}

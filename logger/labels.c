@@ -259,3 +259,17 @@ void aero_put_label(char *to, const char *symbol, bool is_function, size_t most)
     put_within(to, from, most);
     free(readable);
 }
+
+/* ---- the C++ library's own */
+
+bool aero_is_symbol_of_cpp(const char *symbol) {
+    static const char *const heads[] = {"St", "9__gnu_cxx", "11__gnu_debug", "14__gnu_internal", "10__cxxabiv1", "9libunwind",
+                                        "12_GLOBAL__N_116get_locale_mutexE", "12_GLOBAL__N_122get_locale_cache_mutexE",
+                                        "12_GLOBAL__N_116get_palloc_mutexE", "12_GLOBAL__N_118get_freelist_mutexE"};
+    if (strncmp(symbol, "_Z", 2)) return false;
+    for (symbol += 2; *symbol == 'Z';) symbol++;
+    if (*symbol == 'N') symbol += 1 + strspn(symbol + 1, "rVK");
+    for (size_t one = 0; one < sizeof heads / sizeof *heads; one++)
+        if (begins(symbol, heads[one])) return true;
+    return false;
+}

@@ -22,7 +22,7 @@ static void hold(uintptr_t lock, enum holding how) {
         aero_stop(CUT_MEMORY, "out of memory");
         return;
     }
-    *held_at(me, me->holds) = (struct held){lock, how};
+    *held_at(me, me->holds) = (struct held){lock, how, aero_generation(lock)};
     me->holds++;
 }
 
@@ -31,7 +31,7 @@ static enum holding let_go(uintptr_t lock) {
     struct thread *me = &aero_me;
     for (size_t place = me->holds; place > 0; place--) {
         struct held *it = held_at(me, place - 1);
-        if (it->lock != lock) continue;
+        if (it->lock != lock || it->generation != aero_generation(lock)) continue;
         enum holding how = it->how;
         *it = *held_at(me, --me->holds);
         return how;
@@ -114,13 +114,15 @@ void aero_forget_locks(void) {
     aero_me.holds = 0;
 }
 
-static void tell_of_handed(uintptr_t lock) {
+static void tell_of_handed(uintptr_t lock, bool locks) {
     static bool is_told;
     char name[MOST_NAME + 64];
     if (is_told) return;
     is_told = true;
     *aero_put_variable(name, lock) = 0;
-    aero_say(name, "a thread unlocks the mutex that another one has locked: the log has w(..handed) for it from here on");
+    aero_say(name, locks ? "a thread locks the mutex that another one holds in the log, as if it were made anew: the log has w(..handed) for it "
+                           "from here on"
+                         : "a thread unlocks the mutex that another one has locked: the log has w(..handed) for it from here on");
 }
 static void handed_line(uintptr_t lock, uintptr_t code) {
     char name[MOST_NAME + 64];
@@ -135,7 +137,7 @@ static bool takes_mutex(uintptr_t lock) {
     else if (it->owner == aero_me.number) it->times++;
     else if (it->owner != HANDED) {
         it->owner = HANDED;
-        tell_of_handed(lock);
+        tell_of_handed(lock, true);
     }
     return !it || it->owner != HANDED;
 }
@@ -148,23 +150,26 @@ static bool gives_mutex(uintptr_t lock) {
         if (!--it->times) forget_holder(it);
         return true;
     }
-    if (it->owner != HANDED) tell_of_handed(lock);
+    if (it->owner != HANDED) tell_of_handed(lock, false);
     it->owner = HANDED;
     return false;
 }
 
 /* ---- what a thread takes and gives back; the log's lock is held */
 
+/* (a lock whose memory is other variables by now isn't there any more) */
 void aero_release_all(void) {
     struct thread *me = &aero_me;
     while (me->holds) {
         struct held it = *held_at(me, --me->holds);
+        if (it.generation != aero_generation(it.lock)) continue;
         if (it.how != MUTEX || gives_mutex(it.lock)) lock_line("rel", it.lock, it.how, 0);
     }
 }
 
 /* A process that ends between the line and what is noted releases nothing that it hasn't acquired, and nothing twice. */
 void aero_hold(uintptr_t lock, enum holding how, uintptr_t code) {
+    if (UNLIKELY(aero_is_of_contained_cpp(lock))) return;
     if (how == MUTEX && UNLIKELY(!takes_mutex(lock))) {
         handed_line(lock, code);
         return;
@@ -176,6 +181,7 @@ void aero_hold(uintptr_t lock, enum holding how, uintptr_t code) {
 /* How the thread held what it is about to give back. A lock that nobody is known to hold, as one that was taken before the log
  * began, isn't released there. */
 enum holding aero_release(uintptr_t lock, uintptr_t code) {
+    if (UNLIKELY(aero_is_of_contained_cpp(lock))) return 0;
     enum holding how = let_go(lock);
     if ((how == MUTEX || !how) && UNLIKELY(!gives_mutex(lock))) {
         handed_line(lock, code);
@@ -192,7 +198,7 @@ uintptr_t aero_last_mutex(void) {
 }
 
 /* Locks that the C++ library has for variables of its own, as for the program's locale, of which each stream takes a copy: no program
- * counts on their order. */
+ * counts on their order. (aero_hold knows those that the program contains) */
 static bool is_of_library(uintptr_t lock) { return aero_is_of_condition() || aero_is_of_cpp_library(lock); }
 
 void aero_acquired(uintptr_t lock, enum holding how, uintptr_t code) {
@@ -292,9 +298,25 @@ static void has_again(void *given) {
     if (wait->how) aero_acquired(wait->lock, wait->how, wait->code);
 }
 
-#define WAIT(name, version, arguments, ...) \
+/* The C library refuses a wait until no time, and, unless the mutex is of the plain kind, one with a mutex that the thread doesn't hold:
+ * then nothing happens. */
+static bool is_time(const struct timespec *until) { return until->tv_nsec >= 0 && until->tv_nsec < 1000000000; }
+static bool is_refused(const void *lock) {
+    enum { CHECKED = 3, ROBUST = 16, ADAPTIVE = 3 };
+    int kind = ((const pthread_mutex_t *)lock)->__data.__kind;
+    bool is_checked = kind & ROBUST || ((kind & CHECKED) && (kind & CHECKED) != ADAPTIVE);
+    if (!is_checked || !aero_enter()) return false;
+    aero_lock();
+    bool is_others = is_of_another((uintptr_t)lock);
+    aero_unlock();
+    aero_leave();
+    return is_others;
+}
+
+#define WAIT(name, version, is_valid, arguments, ...) \
     EXPORT int name(__VA_ARGS__) { \
         REAL_VERSION(int, name, version, __VA_ARGS__) \
+        if (!(is_valid) || is_refused(lock)) return real arguments; \
         struct wait wait = {(uintptr_t)lock, HERE, 0, aero_is_of_condition()}; \
         int result; \
         wait.how = aero_releasing(wait.lock, wait.code); \
@@ -309,13 +331,13 @@ static void has_again(void *given) {
 #else
 #define CONDITIONS NULL
 #endif
-WAIT(pthread_cond_wait, CONDITIONS, (condition, lock), pthread_cond_t *condition, pthread_mutex_t *lock)
-WAIT(pthread_cond_timedwait, CONDITIONS, (condition, lock, until),
+WAIT(pthread_cond_wait, CONDITIONS, true, (condition, lock), pthread_cond_t *condition, pthread_mutex_t *lock)
+WAIT(pthread_cond_timedwait, CONDITIONS, is_time(until), (condition, lock, until),
         pthread_cond_t *condition, pthread_mutex_t *lock, until_type until)
-WAIT(pthread_cond_clockwait, NULL, (condition, lock, clock, until),
+WAIT(pthread_cond_clockwait, NULL, is_time(until), (condition, lock, clock, until),
         pthread_cond_t *condition, pthread_mutex_t *lock, clockid_t clock, until_type until)
-WAIT(cnd_wait, NULL, (condition, lock), cnd_t *condition, mtx_t *lock)
-WAIT(cnd_timedwait, NULL, (condition, lock, until), cnd_t *condition, mtx_t *lock, until_type until)
+WAIT(cnd_wait, NULL, true, (condition, lock), cnd_t *condition, mtx_t *lock)
+WAIT(cnd_timedwait, NULL, is_time(until), (condition, lock, until), cnd_t *condition, mtx_t *lock, until_type until)
 
 /* ---- mutexes of programs that know of -fsanitize=thread */
 

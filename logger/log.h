@@ -26,9 +26,10 @@
 _Static_assert(sizeof(uintptr_t) == 8, "addresses have 64 bits");
 #define LIKELY(condition) __builtin_expect(!!(condition), 1)
 #define UNLIKELY(condition) __builtin_expect(!!(condition), 0)
-/* Where the caller of the function goes on, and where its stack ends at the call. */
-#define HERE ((uintptr_t)__builtin_return_address(0))
+/* Where the caller of the function goes on, and where its stack ends at the call. By HERE, what others have left without a hook ends. */
+#define CALL ((uintptr_t)__builtin_return_address(0))
 #define FRAME ((uintptr_t)__builtin_dwarf_cfa())
+#define HERE (aero_come_from(FRAME), CALL)
 
 /* The next function of that name behind the program's own: that of the C library. All are looked up at the start, since a signal
  * handler or a child of vfork() may be the first to call one; a library that comes later has its own looked up by who calls them. */
@@ -63,6 +64,7 @@ enum holding { MUTEX = 1, READER, WRITER };
 struct held {
     uintptr_t lock;
     enum holding how;
+    uint32_t generation;             /* of the memory there */
 };
 enum { FEW_HELD = 16 };
 
@@ -91,6 +93,9 @@ struct thread {
     size_t leading;          /* so many frames, from the first one, are functions of the runtime */
     uintptr_t outside;       /* in a function of the runtime: where code that isn't of it has called that; else 0 */
     size_t handler;          /* in a signal handler: one more than the frames that were there before; else 0 */
+    uintptr_t handler_at;    /* the handler's frames lie below */
+    uintptr_t low, high;     /* where its own stack lies; 0: it isn't known */
+    uintptr_t top;           /* that of the last frame, if it is of the own stack, and else 0; without frames the highest address */
     struct held few[FEW_HELD], *held;    /* the first ones, and those behind them */
     size_t holds, held_room;
     struct locking locking;
@@ -277,14 +282,17 @@ void aero_names_start(void);
 void aero_library_loaded(uintptr_t code);             /* that has code there: its names are read */
 bool aero_is_loaded(const char *file, size_t length); /* whether that of a library is called so */
 bool aero_is_of_unwinder(uintptr_t code);             /* or of what C++ has for locales */
-/* The files of the C++ library, with their variables: libc++ has libc++abi beside it. */
+/* The files of the C++ library, with their variables: libc++ has libc++abi beside it, and either has an unwinder. */
+enum { FILES_OF_CPP = 5 };
 struct file_of_cpp { _Atomic uintptr_t low, bytes; };
-extern struct file_of_cpp aero_cpp, aero_cpp_abi;
-static inline bool aero_is_in_file(const struct file_of_cpp *file, uintptr_t at) {
-    uintptr_t low = atomic_load_explicit(&file->low, memory_order_relaxed);
-    return UNLIKELY(at - low < atomic_load_explicit(&file->bytes, memory_order_relaxed));
+extern struct file_of_cpp aero_files_of_cpp[FILES_OF_CPP];
+static inline bool aero_is_of_cpp_library(uintptr_t at) {
+    for (const struct file_of_cpp *file = aero_files_of_cpp; file < aero_files_of_cpp + FILES_OF_CPP; file++) {
+        uintptr_t low = atomic_load_explicit(&file->low, memory_order_relaxed);
+        if (UNLIKELY(at - low < atomic_load_explicit(&file->bytes, memory_order_relaxed))) return true;
+    }
+    return false;
 }
-static inline bool aero_is_of_cpp_library(uintptr_t at) { return aero_is_in_file(&aero_cpp, at) || aero_is_in_file(&aero_cpp_abi, at); }
 void aero_lock_names(void);
 void aero_unlock_names(void);
 const struct code *aero_code(uintptr_t at);           /* NULL where memory is refused */
@@ -295,10 +303,14 @@ void aero_each_function(const char *file, bool (*each)(const char *label, const 
 char *aero_put_hex(char *to, uintptr_t number);
 char *aero_put_text(char *to, const char *text);
 char *aero_put_variable(char *to, uintptr_t address);
+/* Whether the byte is of a variable that the C++ library has for itself, and the program contains. */
+bool aero_is_of_contained_cpp(uintptr_t address);
 /* Where the global variable that has the byte begins and ends; 0 and UINTPTR_MAX where there is none. */
 void aero_symbol_bounds(uintptr_t address, uintptr_t *from, uintptr_t *to);
 
 /* labels.c */
+/* Whether the C++ library calls a variable of its own by the symbol. */
+bool aero_is_symbol_of_cpp(const char *symbol);
 /* Puts the name of the symbol as the log has it, of at most `most` bytes, with a byte 0 behind it. */
 void aero_put_label(char *to, const char *symbol, bool is_function, size_t most);
 char aero_fitting(char byte);        /* the byte, or ! for one that the format doesn't have in a name */
@@ -309,6 +321,7 @@ struct symbol {
     const char *name;
     bool several;            /* others have the name too */
     bool again;              /* others were there before, and are gone */
+    bool is_of_cpp;          /* it is the C++ library's own */
 };
 struct table {
     struct symbol *symbols;  /* in the order of their addresses, no two at one */
@@ -335,7 +348,7 @@ uint16_t *aero_parts_at(uintptr_t address);
 enum { AERO_PIECE = 4 };
 void aero_renew(uintptr_t from, uintptr_t to);        /* what lies there is new variables, in whole pieces of so many bytes */
 uint32_t aero_generation(uintptr_t address);          /* how often it was renewed */
-uintptr_t aero_step(uintptr_t address);               /* and, with it, how many bytes: AERO_PIECE or more */
+uintptr_t aero_step(uintptr_t address);               /* and, with it, how many bytes from there on: AERO_PIECE or more */
 void aero_mark_stack(uintptr_t low, uintptr_t high);  /* accesses to its pages are noted */
 
 /* stacks.c */
@@ -376,6 +389,11 @@ bool aero_starts_are_blocks(void);                    /* whether the functions a
 extern bool aero_has_entered;                         /* a function that has hooks */
 extern bool aero_has_begun;                           /* a block */
 void aero_left(uintptr_t frame);                      /* ends the blocks of functions below the frame */
+void aero_may_have_left(uintptr_t frame);             /* the same, where the frame shows that these have ended without a hook */
+/* Of what the program does in a function whose frame ends there: others may have been left by __builtin_longjmp. */
+static inline void aero_come_from(uintptr_t frame) {
+    if (UNLIKELY(frame > aero_me.top)) aero_may_have_left(frame);
+}
 void aero_end_blocks(void);                           /* ends all of the calling thread's; the log's lock is held */
 void aero_forget_blocks(void);                        /* as the log that they began in isn't written here */
 void aero_split_blocks(bool begins);                  /* ends them where they are to be split, and then begins them again */

@@ -105,7 +105,8 @@ uint32_t aero_generation(uintptr_t address) {
 
 uintptr_t aero_step(uintptr_t address) {
     struct leaf *leaf = leaf_of(address, false);
-    return leaf && pieces_of(leaf, address, false) ? AERO_PIECE : 1 << UNIT_BITS;
+    if (!leaf) return (1 << LEAF_BITS) - (address & ((1 << LEAF_BITS) - 1));
+    return pieces_of(leaf, address, false) ? AERO_PIECE : 1 << UNIT_BITS;
 }
 
 /* Renews pieces of one unit. */
@@ -212,10 +213,9 @@ EXPORT int brk(void *end) {
 
 /* ---- accesses */
 
-static void access_at(const char *operation, enum access how, uintptr_t address, size_t bytes, uintptr_t code, uintptr_t frame) {
+static void access_at(const char *operation, enum access how, uintptr_t address, size_t bytes, uintptr_t code) {
     aero_may_be_cancelled();
     if (!aero_enter()) return;
-    if (UNLIKELY(aero_me.jumped)) aero_left(frame);
     aero_lock();
     aero_span(operation, how, address, bytes, code);
     aero_unlock();
@@ -236,9 +236,9 @@ void aero_range(const char *operation, uintptr_t address, size_t bytes, uintptr_
 }
 
 #define ACCESS(name, operation, how, bytes) \
-    EXPORT void name(void *at) { access_at(operation, how, (uintptr_t)at, bytes, HERE, FRAME); }
+    EXPORT void name(void *at) { access_at(operation, how, (uintptr_t)at, bytes, HERE); }
 #define ACCESS_FROM(name, operation, how, bytes) \
-    EXPORT void name(void *at, void *code) { access_at(operation, how, (uintptr_t)at, bytes, (uintptr_t)code, FRAME); }
+    EXPORT void name(void *at, void *code) { access_at(operation, how, (uintptr_t)at, bytes, (HERE, (uintptr_t)code)); }
 #define ACCESSES(kind, how, bytes) \
     ACCESS(__tsan_##kind##read##bytes, "r", how, bytes) \
     ACCESS(__tsan_##kind##write##bytes, "w", how, bytes) \
@@ -259,8 +259,8 @@ EXPORT void __tsan_read_range(void *at, size_t bytes) { aero_range("r", (uintptr
 EXPORT void __tsan_write_range(void *at, size_t bytes) { aero_range("w", (uintptr_t)at, bytes, HERE); }
 EXPORT void __tsan_read_range_pc(void *at, size_t bytes, void *code) { aero_range("r", (uintptr_t)at, bytes, (uintptr_t)code); }
 EXPORT void __tsan_write_range_pc(void *at, size_t bytes, void *code) { aero_range("w", (uintptr_t)at, bytes, (uintptr_t)code); }
-EXPORT void __tsan_vptr_read(void **at) { access_at("r", PLAIN, (uintptr_t)at, sizeof *at, HERE, FRAME); }
+EXPORT void __tsan_vptr_read(void **at) { access_at("r", PLAIN, (uintptr_t)at, sizeof *at, HERE); }
 EXPORT void __tsan_vptr_update(void **at, void *value) {
     (void)value;
-    access_at("w", PLAIN, (uintptr_t)at, sizeof *at, HERE, FRAME);
+    access_at("w", PLAIN, (uintptr_t)at, sizeof *at, HERE);
 }

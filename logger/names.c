@@ -29,7 +29,7 @@ struct object {
 enum { MOST_FILE = 255, MOST_PLACE = MOST_FILE + 32 };
 static struct object objects[MOST_OBJECTS];
 static int object_count;
-struct file_of_cpp aero_cpp, aero_cpp_abi;
+struct file_of_cpp aero_files_of_cpp[FILES_OF_CPP];
 
 /* The global variables of an object, from the first byte to the last one. The log's lock is held where these change, or are
  * looked at. */
@@ -208,11 +208,12 @@ static struct object *place_for_object(void) {
 
 /* Keeps where the object lies, if it is a file of the C++ library. */
 static void note_cpp(const struct object *object) {
-    bool is_abi = begins(object->name, "libc++abi.so");
-    if (!is_abi && !begins(object->name, "libstdc++.so") && !begins(object->name, "libc++.so")) return;
-    struct file_of_cpp *file = is_abi ? &aero_cpp_abi : &aero_cpp;
-    atomic_store(&file->low, object->low);
-    atomic_store(&file->bytes, object->high - object->low);
+    static const char *const names[FILES_OF_CPP] = {"libstdc++.so", "libc++.so", "libc++abi.so", "libunwind.so", "libgcc_s.so"};
+    for (size_t one = 0; one < FILES_OF_CPP; one++) {
+        if (!begins(object->name, names[one])) continue;
+        atomic_store(&aero_files_of_cpp[one].low, object->low);
+        atomic_store(&aero_files_of_cpp[one].bytes, object->high - object->low);
+    }
 }
 
 /* The object whose code has the address, or NULL; the lock of the names is held. */
@@ -310,6 +311,7 @@ static bool make_readable(struct table table) {
     enum { MOST = 200 };
     char *room = aero_pages(table.count * (MOST + 1)), *to = room;
     for (size_t place = 0; room && place < table.count; place++) {
+        table.symbols[place].is_of_cpp = aero_is_symbol_of_cpp(table.symbols[place].name);
         aero_put_label(to, table.symbols[place].name, false, MOST);
         table.symbols[place].name = to;
         to += strlen(to) + 1;
@@ -555,6 +557,11 @@ static const struct symbol *variable_at(uintptr_t address) {
     const struct symbol *it = aero_symbol_at(&regions[low - 1].table, address);
     if (it) recent = it;
     return it;
+}
+
+bool aero_is_of_contained_cpp(uintptr_t address) {
+    const struct symbol *it = variable_at(address);
+    return it && it->is_of_cpp;
 }
 
 void aero_symbol_bounds(uintptr_t address, uintptr_t *from, uintptr_t *to) {

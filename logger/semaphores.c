@@ -1,4 +1,4 @@
-/* Semaphores. Each post has a number K, and writes sem.X.K before the call. A wait reads, once it is through, the posts without which
+/* Semaphores. Each post has a number K, and writes sem.X.K before anybody can take its permit. A wait reads, once it is through, the posts without which
  * it would have had to wait, as far as the log can tell:
  *
  *   all posts, and all waits, since the semaphore had no permit are of one thread each   the K-th such wait reads the K-th post
@@ -93,18 +93,20 @@ static void note_thread(int *who, bool is_first) {
 
 EXPORT int sem_post(sem_t *semaphore) {
     REAL(int, sem_post, sem_t *)
-    if (aero_enter()) {
-        int value = value_of(semaphore);
-        aero_lock();
-        struct semaphore *it = known(semaphore, value);
-        if (it) {
-            note_thread(&it->poster, it->posts == it->from);
-            line("w", it, ++it->posts, HERE);
-        }
-        aero_unlock();
-        aero_leave();
+    uintptr_t code = HERE;
+    if (!aero_enter()) return real(semaphore);
+    int value = value_of(semaphore);
+    aero_lock();
+    struct semaphore *it = known(semaphore, value);
+    int result = real(semaphore);
+    if (it && !result) {
+        note_thread(&it->poster, it->posts == it->from);
+        line("w", it, ++it->posts, code);
     }
-    return real(semaphore);
+    if (result) aero_me.error = errno;
+    aero_unlock();
+    aero_leave();
+    return result;
 }
 
 /* Before a wait, so that its permits are counted without it. */

@@ -49,10 +49,13 @@ static __thread struct note note;
 
 static void call(uintptr_t handler, int signal, siginfo_t *how, void *at) {
     size_t before = aero_me.handler;
+    uintptr_t before_at = aero_me.handler_at;
     aero_me.handler = aero_me.depth + 1;
+    aero_me.handler_at = (uintptr_t)__builtin_frame_address(0);
     if (handler & WITH_INFO) ((info_handler_type)(handler & ~WITH_INFO))(signal, how, at);
     else ((handler_type)handler)(signal);
     aero_me.handler = before;
+    aero_me.handler_at = before_at;
     /* abort() goes on to end the process. */
     if (signal == SIGABRT && aero_me.aborts) aero_finish();
 }

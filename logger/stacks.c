@@ -40,6 +40,8 @@ static void note_stack(uintptr_t low, uintptr_t high) {
     aero_mark_stack(low, high);
 }
 void aero_note_stack(uintptr_t low, uintptr_t high) {
+    aero_me.low = low;
+    aero_me.high = high;
     aero_renew(low, high);
     if (!aero_settings.fresh) return;
     aero_lock();

@@ -107,7 +107,7 @@ static bool gather(const ElfW(Sym) *it, const char *name, void *with) {
     struct gathering *to = with;
     if ((it->st_info & 15) != to->kind || it->st_shndx == SHN_UNDEF || !*name) return true;
     if (to->kind == STT_OBJECT && !it->st_size) return true;
-    to->table.symbols[to->table.count++] = (struct symbol){it->st_value + to->bias, it->st_size, name, 0, 0};
+    to->table.symbols[to->table.count++] = (struct symbol){.at = it->st_value + to->bias, .size = it->st_size, .name = name};
     return true;
 }
 

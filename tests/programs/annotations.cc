@@ -126,6 +126,8 @@ int main(int words, char **) {
     ignores();
     from_pool();
     from_pool();
+    // (of what was never allocated nothing is kept)
+    AnnotateNewMemory(HERE, reinterpret_cast<void *>(1l << 40), 1l << 45);
     if (words > 1) {
         void *fiber = __tsan_create_fiber(0);
         __tsan_set_fiber_name(fiber, "fiber");
