@@ -3,7 +3,9 @@ package aerodrome.hooks;
 import aerodrome.log.LoggedThread;
 import aerodrome.names.Numbers;
 import aerodrome.names.Text;
+import java.lang.invoke.MethodHandle;
 import java.lang.invoke.MethodHandles;
+import java.lang.invoke.MethodType;
 import java.lang.invoke.VarHandle;
 import java.lang.reflect.Field;
 import java.util.concurrent.locks.AbstractQueuedLongSynchronizer;
@@ -12,12 +14,16 @@ import java.util.concurrent.locks.Lock;
 import java.util.concurrent.locks.ReentrantLock;
 import java.util.concurrent.locks.ReentrantReadWriteLock.ReadLock;
 import java.util.concurrent.locks.ReentrantReadWriteLock.WriteLock;
+import java.util.concurrent.locks.StampedLock;
 
 /** The locks of java.util.concurrent. A lock, its views and its conditions share a synchronizer, which is the lock by the log. */
 public final class Locks {
     private static final byte[] READ_WRITE = Text.bytes("rw.");
+    private static final String READ_WRITE_LOCK = "java.util.concurrent.locks.ReentrantReadWriteLock";
     private static VarHandle ofLock, ofReader, ofWriter, ofCondition, ofLongCondition, ofReadView, ofWriteView;
     private static Class<?> readView, writeView;
+    /** Whether the thread holds a read-write lock to write, and how often it does so to read. */
+    private static MethodHandle isWriter, timesReader;
 
     private Locks() { }
 
@@ -32,6 +38,12 @@ public final class Locks {
         writeView = Class.forName("java.util.concurrent.locks.StampedLock$WriteLockView");
         ofReadView = handle(readView, "this$0");
         ofWriteView = handle(writeView, "this$0");
+        Class<?> sync = Class.forName(READ_WRITE_LOCK + "$Sync");
+        MethodHandles.Lookup within = MethodHandles.privateLookupIn(sync, MethodHandles.lookup());
+        isWriter = within.findVirtual(sync, "isHeldExclusively", MethodType.methodType(boolean.class))
+                .asType(MethodType.methodType(boolean.class, Object.class));
+        timesReader = within.findVirtual(sync, "getReadHoldCount", MethodType.methodType(int.class))
+                .asType(MethodType.methodType(int.class, Object.class));
     }
     private static VarHandle handle(Class<?> of, String name) throws ReflectiveOperationException {
         Field field = of.getDeclaredField(name);
@@ -52,7 +64,18 @@ public final class Locks {
             Object of = ofLock.get(lock);
             int count = ((ReentrantLock) lock).getHoldCount();
             if (count > 0 && count == me.held.count(Numbers.of(of))) Events.release(me, of, 1, site);
-        } else other(me, lock, site);
+        } else if (isHeld(lock)) other(me, lock, site);
+    }
+    /** Whether the lock can be given back: otherwise the call throws. */
+    private static boolean isHeld(Object lock) {
+        try {
+            if (lock instanceof ReadLock) return (int) timesReader.invokeExact(ofReader.get(lock)) > 0;
+            if (lock instanceof WriteLock) return (boolean) isWriter.invokeExact(ofWriter.get(lock));
+        } catch (Throwable impossible) {
+            return true;
+        }
+        if (readView.isInstance(lock)) return ((StampedLock) ofReadView.get(lock)).isReadLocked();
+        return !writeView.isInstance(lock) || ((StampedLock) ofWriteView.get(lock)).isWriteLocked();
     }
 
     /** Readers may overlap, so a read-write lock is no lock by the log; nor is one that isn't known. */
@@ -83,6 +106,6 @@ public final class Locks {
         return condition instanceof AbstractQueuedLongSynchronizer.ConditionObject ? ofLongCondition.get(condition) : null;
     }
     private static boolean isReadWrite(Object synchronizer) {
-        return synchronizer.getClass().getName().startsWith("java.util.concurrent.locks.ReentrantReadWriteLock");
+        return synchronizer.getClass().getName().startsWith(READ_WRITE_LOCK);
     }
 }
