@@ -296,9 +296,9 @@ public final class Call {
         if (kind == Kind.AWAIT) Locks.takeBack(me, receiver, times, site);
     }
 
-    /** Of a call that is logged behind it. It has looked before it failed, unless it was given nothing to look for. */
+    /** Of a call that is logged behind it. It has looked before it failed, unless it was given no key to look for. */
     private void failedRead(Throwable thrown) {
-        if (thrown instanceof NullPointerException && argument == null) return;
+        if (thrown instanceof NullPointerException && argument == null && kind.ofKeys()) return;
         switch (kind) {
             case COLLECTION_READ: case COLLECTION_GET: case KEY_READ: case KEY_WITHIN: case WHOLE_READ: case LOOKED: case READ_AFTER:
                 after(null, 0);
