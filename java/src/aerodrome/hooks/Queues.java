@@ -273,16 +273,19 @@ final class Queues {
     }
     /** All that is inside was looked at, and some of it taken: all, or what doesn't stand there now. */
     void purged(LoggedThread me, Object queue, boolean isAll, Before before, int site) {
-        boolean isKnown = isAll || queue.getClass().getClassLoader() == null;
-        Set<Long> left = new HashSet<>();
-        if (!isAll && isKnown) for (Object one : (Collection<?>) queue) left.add(Numbers.of(one));
+        Set<Long> left = isAll ? Set.of() : ask(me, () -> numbers((Collection<?>) queue));
         synchronized (this) {
             taking--;
-            boolean isAlone = isKnown && isFirst(before);
+            boolean isAlone = isFirst(before);
             for (long one : leave(left, before)) if (isAlone) write(me.line, Events.READ, queue, ITEM, one, site);
-            each(me, me.line, queue, foundSome, HEAD, site);
+            wasChanged(me, queue, site);
             sawNone(me, queue, before, site);
         }
+    }
+    private static Set<Long> numbers(Collection<?> objects) {
+        Set<Long> numbers = new HashSet<>();
+        for (Object one : objects) numbers.add(Numbers.of(one));
+        return numbers;
     }
     /** Drops the puts that had ended before the call and whose objects aren't left, and returns their numbers. */
     private List<Long> leave(Set<Long> left, Before before) {
@@ -373,8 +376,13 @@ final class Queues {
         return ended;
     }
     private void wasTaken(LoggedThread me, Object queue, Before before, int site) {
-        each(me, me.line, queue, foundSome, HEAD, site);
+        wasChanged(me, queue, site);
         sawAgain(me, queue, before, site);
+    }
+    private void wasChanged(LoggedThread me, Object queue, int site) {
+        each(me, me.line, queue, foundSome, HEAD, site);
+        // Of a sorted queue: nobody can say whether what is put later would have been before what was seen, and is gone.
+        if (isSorted) sawFirst = 0;
     }
     /** A thread that found something before has had its turn. */
     private void sawAgain(LoggedThread me, Object queue, Before before, int site) {
