@@ -233,7 +233,7 @@ COLLECTIONS = [
         "iterated"),
     ("LinkedHashSet<Object>", "List.of(1, 2)", SET_WRITES, SET_READS, "iterated"), ("CopyOnWriteArraySet<Object>", "List.of(1, 2)", OWN_WRITES + ["clear()"],
         SET_READS + OWN_READS, ""),
-    ("CopyOnWriteArrayList<Object>", "List.of(1, 2)", LIST_WRITES + behind(DROP, 77, ["addIfAbsent(77)"]), LIST_READS + behind(PUT, 77, ["addIfAbsent(77)"]), ""),
+    ("CopyOnWriteArrayList<Object>", "List.of(1, 2)", LIST_WRITES + behind(DROP, 77, ["addIfAbsent(77)"]), LIST_READS + behind(PUT, 78, ["addIfAbsent(78)"]), ""),
     ("Vector<Object>", "List.of(1, 2)", LIST_WRITES + ["addElement(3)", "insertElementAt(3, 0)"], LIST_READS + ["elementAt(0)", "isEmpty()"], "iterated listed"),
     ("BitSet", "", ["set(3)", "flip(4)", "clear()"], ["get(3)", "cardinality()", "isEmpty()"], ""),
     ("List<Object>", "Collections.synchronizedList(new ArrayList<Object>(List.of(1, 2)))", LIST_WRITES, LIST_READS, ""),

@@ -95,7 +95,7 @@ public final class Calls {
         if (kind.isOpen()) return receiver.getClass().getClassLoader() == null ? kind.closed() : kind.apart();
         if (argument == null && isUnsafe(receiver)) return Kind.NOTHING;
         if (!kind.isContents()) return kind;
-        if (!Views.isOpaque(of) || Kind.isChange(code) && Views.isUnmodifiable(receiver)) return Kind.NOTHING;
+        if (!Views.mayAccess(receiver, of, Kind.isChange(code))) return Kind.NOTHING;
         if (Kind.ofMap(code) != Kind.NOTHING && Maps.hasKeys(of)) return Maps.kind(Kind.ofMap(code), receiver);
         if (Kind.ofQueue(code) != Kind.NOTHING && isQueue(of)) return Views.ofQueue(Kind.ofQueue(code), receiver);
         if (kind == Kind.COLLECTION_COMPARE) return isComparedByIdentity(receiver) ? Kind.NOTHING : Kind.COLLECTION_READ;

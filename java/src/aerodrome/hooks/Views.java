@@ -126,6 +126,12 @@ public final class Views {
     }
 
     static boolean isOpaque(Object collection) { return BEHIND.get(collection.getClass()).isOpaque; }
+    /** Returns whether a call of the collection, or of the view of it that the receiver is, stands for what it does to the contents. */
+    static boolean mayAccess(Object receiver, Object collection, boolean isChange) {
+        Behind behind = BEHIND.get(collection.getClass());
+        if (!isChange || !behind.isOpaque) return behind.isOpaque;
+        return !behind.isUnmodifiable && (receiver == collection || !isUnmodifiable(receiver));
+    }
 
     /** Returns the set or the properties that are made of this map, if they are tied to it; otherwise the map itself. */
     static Object owner(Object map) {
