@@ -33,7 +33,9 @@ import java.util.concurrent.atomic.AtomicIntegerArray;
 import java.util.concurrent.atomic.AtomicIntegerFieldUpdater;
 import java.util.concurrent.atomic.AtomicLong;
 import java.util.concurrent.atomic.AtomicReference;
+import java.util.concurrent.locks.Condition;
 import java.util.concurrent.locks.Lock;
+import java.util.concurrent.locks.ReentrantLock;
 import java.util.concurrent.locks.ReentrantReadWriteLock;
 import java.util.concurrent.locks.StampedLock;
 
@@ -299,6 +301,9 @@ public class Vain {
         Lock reader = both.readLock(), writer = both.writeLock();
         fails(() -> reader.unlock());
         fails(() -> writer.unlock());
+        Condition condition = writer.newCondition(), own = new ReentrantLock().newCondition();
+        fails(() -> condition.await());
+        fails(() -> own.await());
         writer.lock(); //: w(rw.ReentrantReadWriteLock$NonfairSync@)
         fails(() -> reader.unlock());
         writer.unlock(); //: w(rw.ReentrantReadWriteLock$NonfairSync@)

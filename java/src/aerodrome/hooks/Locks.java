@@ -68,14 +68,29 @@ public final class Locks {
     }
     /** Whether the lock can be given back: otherwise the call throws. */
     private static boolean isHeld(Object lock) {
-        try {
-            if (lock instanceof ReadLock) return (int) timesReader.invokeExact(ofReader.get(lock)) > 0;
-            if (lock instanceof WriteLock) return (boolean) isWriter.invokeExact(ofWriter.get(lock));
-        } catch (Throwable impossible) {
-            return true;
-        }
+        if (lock instanceof ReadLock) return isReader(ofReader.get(lock));
+        if (lock instanceof WriteLock) return isWriter(ofWriter.get(lock));
         if (readView.isInstance(lock)) return ((StampedLock) ofReadView.get(lock)).isReadLocked();
         return !writeView.isInstance(lock) || ((StampedLock) ofWriteView.get(lock)).isWriteLocked();
+    }
+
+    private static boolean isReader(Object synchronizer) {
+        try {
+            return (int) timesReader.invokeExact(synchronizer) > 0;
+        } catch (Error full) {
+            throw full;
+        } catch (Throwable impossible) {
+            throw new AssertionError(impossible);
+        }
+    }
+    private static boolean isWriter(Object synchronizer) {
+        try {
+            return (boolean) isWriter.invokeExact(synchronizer);
+        } catch (Error full) {
+            throw full;
+        } catch (Throwable impossible) {
+            throw new AssertionError(impossible);
+        }
     }
 
     /** Readers may overlap, so a read-write lock is no lock by the log; nor is one that isn't known. */
@@ -87,17 +102,17 @@ public final class Locks {
         else if (lock instanceof Lock && lock.getClass().getClassLoader() == null) Events.write(me, Events.WRITE, lock, site);
     }
 
-    /** A condition's lock while it is waited on. Gives how often the lock was held. */
+    /** A condition's lock while it is waited on. Gives how often the lock was held. A wait without the lock throws. */
     static int giveBack(LoggedThread me, Object condition, int site) {
         Object of = synchronizer(condition);
         if (of == null) return 0;
-        if (isReadWrite(of)) Events.write(me, Events.WRITE, READ_WRITE, of, site);
+        if (isReadWrite(of) && isWriter(of)) Events.write(me, Events.WRITE, READ_WRITE, of, site);
         return Events.release(me, of, Integer.MAX_VALUE, site);
     }
     static void takeBack(LoggedThread me, Object condition, int times, int site) {
         Object of = synchronizer(condition);
         if (of == null) return;
-        if (isReadWrite(of)) Events.write(me, Events.WRITE, READ_WRITE, of, site);
+        if (isReadWrite(of) && isWriter(of)) Events.write(me, Events.WRITE, READ_WRITE, of, site);
         Events.acquire(me, of, times, site);
     }
     /** Returns the synchronizer of a condition of the JDK, or null. That of a read-write lock counts in longs in later JDKs. */
