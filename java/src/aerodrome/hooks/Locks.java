@@ -21,7 +21,7 @@ public final class Locks {
     private static final byte[] READ_WRITE = Text.bytes("rw.");
     private static final String READ_WRITE_LOCK = "java.util.concurrent.locks.ReentrantReadWriteLock";
     private static VarHandle ofLock, ofReader, ofWriter, ofCondition, ofLongCondition, ofReadView, ofWriteView;
-    private static Class<?> readView, writeView;
+    private static Class<?> readView, writeView, sync;
     /** Whether the thread holds a read-write lock to write, and how often it does so to read. */
     private static MethodHandle isWriter, timesReader;
 
@@ -38,7 +38,7 @@ public final class Locks {
         writeView = Class.forName("java.util.concurrent.locks.StampedLock$WriteLockView");
         ofReadView = handle(readView, "this$0");
         ofWriteView = handle(writeView, "this$0");
-        Class<?> sync = Class.forName(READ_WRITE_LOCK + "$Sync");
+        sync = Class.forName(READ_WRITE_LOCK + "$Sync");
         MethodHandles.Lookup within = MethodHandles.privateLookupIn(sync, MethodHandles.lookup());
         isWriter = within.findVirtual(sync, "isHeldExclusively", MethodType.methodType(boolean.class))
                 .asType(MethodType.methodType(boolean.class, Object.class));
@@ -83,9 +83,10 @@ public final class Locks {
             throw new AssertionError(impossible);
         }
     }
+    /** One that isn't known may be held. */
     private static boolean isWriter(Object synchronizer) {
         try {
-            return (boolean) isWriter.invokeExact(synchronizer);
+            return !sync.isInstance(synchronizer) || (boolean) isWriter.invokeExact(synchronizer);
         } catch (Error full) {
             throw full;
         } catch (Throwable impossible) {
