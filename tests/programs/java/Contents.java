@@ -199,7 +199,7 @@ public class Contents {
         LinkedBlockingDeque<Object> deque = new LinkedBlockingDeque<>();
         Queue<Object> stack = Collections.asLifoQueue(deque);
         stack.add("a"); //: w(LinkedBlockingDeque@.item#)
-        stack.peek(); //: r(LinkedBlockingDeque@.item#) w(LinkedBlockingDeque@.head#)
+        stack.peek(); //: r(LinkedBlockingDeque@.item#) w(LinkedBlockingDeque@.head#) w(LinkedBlockingDeque@.first#)
         stack.remove(); //: r(LinkedBlockingDeque@.item#) w(LinkedBlockingDeque@.head#)
         Deque<Object> plain = new ArrayDeque<>();
         Collections.asLifoQueue(plain).add("a"); //: w(ArrayDeque@)

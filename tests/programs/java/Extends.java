@@ -94,7 +94,7 @@ public class Extends {
         Gate gate = new Gate();
         gate.countDown(); //: w(Extends$Gate@.all#)
         gate.await(); //: r(Extends$Gate@.all#)
-        new Crossing().await(); //: w(Extends$Crossing@.all#) r(Extends$Crossing@.all#)
+        new Crossing().await(); //: w(Extends$Crossing@.meeting1.all#) r(Extends$Crossing@.meeting1.all#)
         Stages stages = new Stages();
         stages.arriveAndAwaitAdvance(); //: w(Extends$Stages@.phase0.all#) r(Extends$Stages@.phase0.all#)
         Stamped stamped = new Stamped();

@@ -382,7 +382,7 @@ public class Rows {
         latch.getCount(); //: r(CountDownLatch@.all#) w(CountDownLatch@.look#)
         latch.countDown(); //: r(CountDownLatch@.look#) w(CountDownLatch@.all#)
         latch.await(); //: r(CountDownLatch@.all#)
-        new CyclicBarrier(1).await(1, TimeUnit.SECONDS); //: w(CyclicBarrier@.all#) r(CyclicBarrier@.all#)
+        new CyclicBarrier(1).await(1, TimeUnit.SECONDS); //: w(CyclicBarrier@.meeting1.all#) r(CyclicBarrier@.meeting1.all#)
         Phaser phaser = new Phaser(1);
         phaser.arriveAndAwaitAdvance(); //: w(Phaser@.phase0.all#) r(Phaser@.phase0.all#)
         phaser.register();
@@ -476,21 +476,21 @@ public class Rows {
         one().removeFirst(); //: r(LinkedBlockingDeque@.item#)
         one().removeLast(); //: r(LinkedBlockingDeque@.item#)
         one().pop(); //: r(LinkedBlockingDeque@.item#)
-        one().peek(); //: r(LinkedBlockingDeque@.item#) w(LinkedBlockingDeque@.head#)
-        one().element(); //: r(LinkedBlockingDeque@.item#) w(LinkedBlockingDeque@.head#)
-        one().peekFirst(); //: r(LinkedBlockingDeque@.item#) w(LinkedBlockingDeque@.head#)
-        one().peekLast(); //: r(LinkedBlockingDeque@.item#) w(LinkedBlockingDeque@.head#)
-        one().getFirst(); //: r(LinkedBlockingDeque@.item#) w(LinkedBlockingDeque@.head#)
-        one().getLast(); //: r(LinkedBlockingDeque@.item#) w(LinkedBlockingDeque@.head#)
-        one().drainTo(new ArrayList<>()); //: r(LinkedBlockingDeque@.item#)
-        one().drainTo(new LinkedList<>(ABC)); //: r(LinkedBlockingDeque@.item#)
-        one().drainTo(new ArrayDeque<>(ABC)); //: r(LinkedBlockingDeque@.item#)
-        one().drainTo(new HashSet<>()); //: r(LinkedBlockingDeque@.item#)
+        one().peek(); //: r(LinkedBlockingDeque@.item#) w(LinkedBlockingDeque@.head#) w(LinkedBlockingDeque@.first#)
+        one().element(); //: r(LinkedBlockingDeque@.item#) w(LinkedBlockingDeque@.head#) w(LinkedBlockingDeque@.first#)
+        one().peekFirst(); //: r(LinkedBlockingDeque@.item#) w(LinkedBlockingDeque@.head#) w(LinkedBlockingDeque@.first#)
+        one().peekLast(); //: r(LinkedBlockingDeque@.item#) w(LinkedBlockingDeque@.head#) w(LinkedBlockingDeque@.last#)
+        one().getFirst(); //: r(LinkedBlockingDeque@.item#) w(LinkedBlockingDeque@.head#) w(LinkedBlockingDeque@.first#)
+        one().getLast(); //: r(LinkedBlockingDeque@.item#) w(LinkedBlockingDeque@.head#) w(LinkedBlockingDeque@.last#)
+        one().drainTo(new ArrayList<>()); //: r(LinkedBlockingDeque@.item#) w(LinkedBlockingDeque@.none#)
+        one().drainTo(new LinkedList<>(ABC)); //: r(LinkedBlockingDeque@.item#) w(LinkedBlockingDeque@.none#)
+        one().drainTo(new ArrayDeque<>(ABC)); //: r(LinkedBlockingDeque@.item#) w(LinkedBlockingDeque@.none#)
+        one().drainTo(new HashSet<>()); //: r(LinkedBlockingDeque@.item#) w(LinkedBlockingDeque@.none#)
         one().isEmpty(); //: w(LinkedBlockingDeque@.head#)
         one().size(); //: w(LinkedBlockingDeque@.none#) w(LinkedBlockingDeque@.head#)
         one().remainingCapacity(); //: w(LinkedBlockingDeque@.none#) w(LinkedBlockingDeque@.head#)
-        one().contains("a"); //: w(LinkedBlockingDeque@.none#) w(LinkedBlockingDeque@.head#)
-        one().containsAll(ABC); //: w(LinkedBlockingDeque@.none#) w(LinkedBlockingDeque@.head#)
+        one().contains("a"); //: w(LinkedBlockingDeque@.head#)
+        one().containsAll(ABC); //: w(LinkedBlockingDeque@.none#)
         one().iterator(); //: w(LinkedBlockingDeque@.none#) w(LinkedBlockingDeque@.head#)
         one().descendingIterator(); //: w(LinkedBlockingDeque@.none#) w(LinkedBlockingDeque@.head#)
         one().forEach(item -> { }); //: w(LinkedBlockingDeque@.none#) w(LinkedBlockingDeque@.head#)
@@ -501,10 +501,10 @@ public class Rows {
         one().remove("a"); //: r(LinkedBlockingDeque@.item#)
         one().removeFirstOccurrence("a"); //: r(LinkedBlockingDeque@.item#)
         one().removeLastOccurrence("a"); //: r(LinkedBlockingDeque@.item#)
-        seen().clear(); //: w(LinkedBlockingDeque@.head#)
-        seen().removeAll(ABC); //: w(LinkedBlockingDeque@.head#)
-        seen().removeIf(item -> true); //: w(LinkedBlockingDeque@.head#)
-        seen().retainAll(Collections.emptyList()); //: w(LinkedBlockingDeque@.head#)
+        seen().clear(); //: r(LinkedBlockingDeque@.item#) w(LinkedBlockingDeque@.head#) w(LinkedBlockingDeque@.none#)
+        seen().removeAll(ABC); //: r(LinkedBlockingDeque@.item#) w(LinkedBlockingDeque@.head#) w(LinkedBlockingDeque@.none#)
+        seen().removeIf(item -> true); //: r(LinkedBlockingDeque@.item#) w(LinkedBlockingDeque@.head#) w(LinkedBlockingDeque@.none#)
+        seen().retainAll(Collections.emptyList()); //: r(LinkedBlockingDeque@.item#) w(LinkedBlockingDeque@.head#) w(LinkedBlockingDeque@.none#)
         seenEmpty().addAll(ABC); //: r(LinkedBlockingDeque@.none#)
     }
 
@@ -523,7 +523,7 @@ public class Rows {
         LinkedTransferQueue<Object> transfers = new LinkedTransferQueue<>();
         TransferQueue<Object> transfer = transfers;
         transfer.put("a"); //: w(LinkedTransferQueue@.item#)
-        transfers.tryTransfer("b"); //: w(LinkedTransferQueue@.item#)
+        transfers.tryTransfer("b");
         transfers.take(); //: r(LinkedTransferQueue@.item#)
         Thread taker = new Thread(() -> {
             try {
@@ -535,10 +535,24 @@ public class Rows {
         taker.start();
         transfers.transfer("c"); //: w(LinkedTransferQueue@.item#)
         taker.join();
+        SynchronousQueue<Object> meets = new SynchronousQueue<>();
+        taker = new Thread(() -> {
+            try {
+                meets.take(); //: r(SynchronousQueue@.item#)
+                transfers.take(); //: r(LinkedTransferQueue@.item#)
+            } catch (InterruptedException impossible) {
+                throw new AssertionError(impossible);
+            }
+        });
+        taker.start();
+        meets.put("d"); //: w(SynchronousQueue@.item#)
+        while (!transfers.hasWaitingConsumer()) Thread.yield();
+        transfers.tryTransfer("e"); //: w(LinkedTransferQueue@.item#)
+        taker.join();
         new LinkedBlockingQueue<Object>().put("a"); //: w(LinkedBlockingQueue@.item#)
         new ArrayBlockingQueue<Object>(1).put("a"); //: w(ArrayBlockingQueue@.item#)
         new PriorityBlockingQueue<Object>().put("a"); //: w(PriorityBlockingQueue@.item#)
-        new SynchronousQueue<Object>().offer("a"); //: w(SynchronousQueue@.item#)
+        new SynchronousQueue<Object>().offer("a");
         new DelayQueue<Soon>().put(new Soon()); //: w(DelayQueue@.item#)
         new ConcurrentLinkedQueue<Object>().add("a"); //: w(ConcurrentLinkedQueue@.item#)
         new ConcurrentLinkedDeque<Object>().add("a"); //: w(ConcurrentLinkedDeque@.item#)
@@ -568,19 +582,19 @@ public class Rows {
         it.add("a"); //: w(LinkedBlockingDeque@.item#)
         it.pollLast(); //: r(LinkedBlockingDeque@.item#)
         it = one();
-        it.peek(); //: r(LinkedBlockingDeque@.item#) w(LinkedBlockingDeque@.head#)
-        it.element(); //: r(LinkedBlockingDeque@.item#) w(LinkedBlockingDeque@.head#)
-        it.peekFirst(); //: r(LinkedBlockingDeque@.item#) w(LinkedBlockingDeque@.head#)
-        it.peekLast(); //: r(LinkedBlockingDeque@.item#) w(LinkedBlockingDeque@.head#)
-        it.getFirst(); //: r(LinkedBlockingDeque@.item#) w(LinkedBlockingDeque@.head#)
-        it.getLast(); //: r(LinkedBlockingDeque@.item#) w(LinkedBlockingDeque@.head#)
+        it.peek(); //: r(LinkedBlockingDeque@.item#) w(LinkedBlockingDeque@.head#) w(LinkedBlockingDeque@.first#)
+        it.element(); //: r(LinkedBlockingDeque@.item#) w(LinkedBlockingDeque@.head#) w(LinkedBlockingDeque@.first#)
+        it.peekFirst(); //: r(LinkedBlockingDeque@.item#) w(LinkedBlockingDeque@.head#) w(LinkedBlockingDeque@.first#)
+        it.peekLast(); //: r(LinkedBlockingDeque@.item#) w(LinkedBlockingDeque@.head#) w(LinkedBlockingDeque@.last#)
+        it.getFirst(); //: r(LinkedBlockingDeque@.item#) w(LinkedBlockingDeque@.head#) w(LinkedBlockingDeque@.first#)
+        it.getLast(); //: r(LinkedBlockingDeque@.item#) w(LinkedBlockingDeque@.head#) w(LinkedBlockingDeque@.last#)
         it.isEmpty(); //: w(LinkedBlockingDeque@.head#)
         it = one();
         it.size(); //: w(LinkedBlockingDeque@.none#) w(LinkedBlockingDeque@.head#)
         it = one();
-        it.contains("a"); //: w(LinkedBlockingDeque@.none#) w(LinkedBlockingDeque@.head#)
+        it.contains("a"); //: w(LinkedBlockingDeque@.head#)
         it = one();
-        it.containsAll(ABC); //: w(LinkedBlockingDeque@.none#) w(LinkedBlockingDeque@.head#)
+        it.containsAll(ABC); //: w(LinkedBlockingDeque@.none#)
         it = one();
         it.iterator(); //: w(LinkedBlockingDeque@.none#) w(LinkedBlockingDeque@.head#)
         it = one();
@@ -594,13 +608,13 @@ public class Rows {
         it.parallelStream(); //: w(LinkedBlockingDeque@.head#) w(LinkedBlockingDeque@.none#) w(LinkedBlockingDeque@.head#)
         it.spliterator(); //: w(LinkedBlockingDeque@.head#) w(LinkedBlockingDeque@.none#) w(LinkedBlockingDeque@.head#)
         it = seen();
-        it.clear(); //: w(LinkedBlockingDeque@.head#)
+        it.clear(); //: r(LinkedBlockingDeque@.item#) w(LinkedBlockingDeque@.head#) w(LinkedBlockingDeque@.none#)
         it = seen();
-        it.removeAll(ABC); //: w(LinkedBlockingDeque@.head#)
+        it.removeAll(ABC); //: r(LinkedBlockingDeque@.item#) w(LinkedBlockingDeque@.head#) w(LinkedBlockingDeque@.none#)
         it = seen();
-        it.removeIf(item -> true); //: w(LinkedBlockingDeque@.head#)
+        it.removeIf(item -> true); //: r(LinkedBlockingDeque@.item#) w(LinkedBlockingDeque@.head#) w(LinkedBlockingDeque@.none#)
         it = seen();
-        it.retainAll(Collections.emptyList()); //: w(LinkedBlockingDeque@.head#)
+        it.retainAll(Collections.emptyList()); //: r(LinkedBlockingDeque@.item#) w(LinkedBlockingDeque@.head#) w(LinkedBlockingDeque@.none#)
         it = seenEmpty();
         it.addAll(ABC); //: r(LinkedBlockingDeque@.none#)
     }
@@ -616,8 +630,8 @@ public class Rows {
         map().containsKey("a"); //: r(ConcurrentHashMap@.clear) r(ConcurrentHashMap@.key#)
         map().getOrDefault("a", 1); //: r(ConcurrentHashMap@.clear) r(ConcurrentHashMap@.key#)
         map().put("a", 1); //: r(ConcurrentHashMap@.clear) w(ConcurrentHashMap@.key#) w(ConcurrentHashMap@.all#)
-        map().remove("a"); //: r(ConcurrentHashMap@.clear) w(ConcurrentHashMap@.key#) w(ConcurrentHashMap@.all#)
-        map().replace("a", 1); //: r(ConcurrentHashMap@.clear) w(ConcurrentHashMap@.key#) w(ConcurrentHashMap@.all#)
+        map().remove("a"); //: r(ConcurrentHashMap@.clear) r(ConcurrentHashMap@.key#)
+        map().replace("a", 1); //: r(ConcurrentHashMap@.clear) r(ConcurrentHashMap@.key#)
         map().compute("a", (key, value) -> 1); //: r(ConcurrentHashMap@.clear) w(ConcurrentHashMap@.key#) w(ConcurrentHashMap@.all#)
         map().computeIfPresent("a", (key, value) -> 1); //: r(ConcurrentHashMap@.clear) r(ConcurrentHashMap@.key#)
         map().merge("a", 1, (one, two) -> 1); //: r(ConcurrentHashMap@.clear) w(ConcurrentHashMap@.key#) w(ConcurrentHashMap@.all#)
@@ -654,8 +668,8 @@ public class Rows {
         mapByItsInterface().containsKey("a"); //: r(ConcurrentHashMap@.clear) r(ConcurrentHashMap@.key#)
         mapByItsInterface().getOrDefault("a", 1); //: r(ConcurrentHashMap@.clear) r(ConcurrentHashMap@.key#)
         mapByItsInterface().put("a", 1); //: r(ConcurrentHashMap@.clear) w(ConcurrentHashMap@.key#) w(ConcurrentHashMap@.all#)
-        mapByItsInterface().remove("a"); //: r(ConcurrentHashMap@.clear) w(ConcurrentHashMap@.key#) w(ConcurrentHashMap@.all#)
-        mapByItsInterface().replace("a", 1); //: r(ConcurrentHashMap@.clear) w(ConcurrentHashMap@.key#) w(ConcurrentHashMap@.all#)
+        mapByItsInterface().remove("a"); //: r(ConcurrentHashMap@.clear) r(ConcurrentHashMap@.key#)
+        mapByItsInterface().replace("a", 1); //: r(ConcurrentHashMap@.clear) r(ConcurrentHashMap@.key#)
         mapByItsInterface().compute("a", (key, value) -> 1); //: r(ConcurrentHashMap@.clear) w(ConcurrentHashMap@.key#) w(ConcurrentHashMap@.all#)
         mapByItsInterface().computeIfPresent("a", (key, value) -> 1); //: r(ConcurrentHashMap@.clear) r(ConcurrentHashMap@.key#)
         mapByItsInterface().merge("a", 1, (one, two) -> 1); //: r(ConcurrentHashMap@.clear) w(ConcurrentHashMap@.key#) w(ConcurrentHashMap@.all#)
@@ -697,7 +711,7 @@ public class Rows {
         keys().parallelStream(); //: r(ConcurrentHashMap@.clear) w(ConcurrentHashMap@.look#)
         keys().spliterator(); //: r(ConcurrentHashMap@.clear) w(ConcurrentHashMap@.look#)
         keys().contains("a"); //: r(ConcurrentHashMap@.clear) r(ConcurrentHashMap@.key#)
-        keys().remove("a"); //: r(ConcurrentHashMap@.clear) w(ConcurrentHashMap@.key#) w(ConcurrentHashMap@.all#)
+        keys().remove("a"); //: r(ConcurrentHashMap@.clear) r(ConcurrentHashMap@.key#)
         keys().clear(); //: w(ConcurrentHashMap@.clear)
         keys().removeAll(ABC); //: w(ConcurrentHashMap@.clear)
         keys().removeIf(key -> true); //: w(ConcurrentHashMap@.clear)

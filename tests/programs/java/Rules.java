@@ -203,7 +203,7 @@ public class Rules {
         number.getAndAdd(2); //: w(AtomicInteger@)
         number.compareAndSet(3, 4); //: w(AtomicInteger@)
         number.compareAndSet(3, 5); //: r(AtomicInteger@)
-        number.updateAndGet(value -> value + total); //: w(AtomicInteger@) r(Rules.total)
+        number.updateAndGet(value -> value + total); //: r(Rules.total) w(AtomicInteger@)
         AtomicLongArray numbers = new AtomicLongArray(2);
         numbers.incrementAndGet(1); //: w(AtomicLongArray@[1])
         AtomicReference<String> text = new AtomicReference<>("a");
@@ -286,7 +286,7 @@ public class Rules {
         CountDownLatch latch = new CountDownLatch(1);
         latch.countDown(); //: w(CountDownLatch@.all#)
         latch.await(); //: r(CountDownLatch@.all#)
-        new CyclicBarrier(1).await(); //: w(CyclicBarrier@.all#) r(CyclicBarrier@.all#)
+        new CyclicBarrier(1).await(); //: w(CyclicBarrier@.meeting1.all#) r(CyclicBarrier@.meeting1.all#)
         Phaser phaser = new Phaser(1);
         phaser.arriveAndAwaitAdvance(); //: w(Phaser@.phase0.all#) r(Phaser@.phase0.all#)
         phaser.arrive(); //: w(Phaser@.phase1.all#)
@@ -308,10 +308,10 @@ public class Rules {
         queue.size(); //: w(ArrayBlockingQueue@.none#) w(ArrayBlockingQueue@.head#)
         queue.add(latch); //: w(ArrayBlockingQueue@.item#)
         queue.add(latch); //: w(ArrayBlockingQueue@.item#)
-        if (queue.offer(latch)) return; //: w(ArrayBlockingQueue@.item#)
+        if (queue.offer(latch)) return; //: w(ArrayBlockingQueue@.head#)
         queue.remove(latch); //: r(ArrayBlockingQueue@.item#) w(ArrayBlockingQueue@.head#)
-        queue.drainTo(new ArrayList<>()); //: r(ArrayBlockingQueue@.item#)
-        queue.clear();
+        queue.drainTo(new ArrayList<>()); //: r(ArrayBlockingQueue@.item#) w(ArrayBlockingQueue@.none#)
+        queue.clear(); //: w(ArrayBlockingQueue@.none#)
     }
 
     interface Looking {
@@ -337,7 +337,15 @@ public class Rules {
         map.putIfAbsent("a", 2); //: r(ConcurrentHashMap@.clear) r(ConcurrentHashMap@.key#)
         map.computeIfAbsent("a", key -> total); //: r(ConcurrentHashMap@.clear) r(ConcurrentHashMap@.key#)
         map.computeIfAbsent("b", key -> total); //: r(Rules.total) r(ConcurrentHashMap@.clear) w(ConcurrentHashMap@.key#) w(ConcurrentHashMap@.all#)
-        map.compute("b", (key, before) -> total); //: r(Rules.total) r(ConcurrentHashMap@.clear) w(ConcurrentHashMap@.key#) w(ConcurrentHashMap@.all#)
+        map.compute("b", (key, before) -> total + 1); //: r(Rules.total) r(ConcurrentHashMap@.clear) w(ConcurrentHashMap@.key#) w(ConcurrentHashMap@.all#)
+        map.compute("b", (key, before) -> before); //: r(ConcurrentHashMap@.clear) r(ConcurrentHashMap@.key#)
+        map.compute("d", (key, before) -> null); //: r(ConcurrentHashMap@.clear) r(ConcurrentHashMap@.key#)
+        map.merge("b", 1, (before, one) -> before); //: r(ConcurrentHashMap@.clear) r(ConcurrentHashMap@.key#)
+        try {
+            map.compute("b", (key, before) -> ((String) before).length()); //: r(ConcurrentHashMap@.clear) r(ConcurrentHashMap@.key#)
+        } catch (ClassCastException wanted) {
+            map.get("b"); //: r(ConcurrentHashMap@.clear) r(ConcurrentHashMap@.key#)
+        }
         map.computeIfPresent("c", (key, before) -> total); //: r(ConcurrentHashMap@.clear) r(ConcurrentHashMap@.key#)
         map.merge("c", 1, (one, two) -> total); //: r(ConcurrentHashMap@.clear) w(ConcurrentHashMap@.key#) w(ConcurrentHashMap@.all#)
         map.get(new UUID(1, 2)); //: r(ConcurrentHashMap@.clear) r(ConcurrentHashMap@.key#.UUID)
@@ -353,7 +361,7 @@ public class Rules {
         map.put("b", 1); //: r(ConcurrentHashMap@.clear) r(ConcurrentHashMap@.look#) w(ConcurrentHashMap@.key#) w(ConcurrentHashMap@.all#)
         map.clear(); //: w(ConcurrentHashMap@.clear)
         Map<Object, Object> seen = map;
-        seen.remove("a"); //: r(ConcurrentHashMap@.clear) r(ConcurrentHashMap@.look#) w(ConcurrentHashMap@.key#) w(ConcurrentHashMap@.all#)
+        seen.remove("a"); //: r(ConcurrentHashMap@.clear) r(ConcurrentHashMap@.key#)
         Map<Object, Object> plain = new HashMap<>();
         plain.put("a", 1); //: w(HashMap@)
         plain.get("a"); //: r(HashMap@)
@@ -380,7 +388,7 @@ public class Rules {
         plain.keySet().remove("a"); //: r(HashMap@) w(HashMap@)
         list.subList(0, 0).size(); //: r(ArrayList@) r(ArrayList@)
         map.keySet().contains("a"); //: r(ConcurrentHashMap@.clear) r(ConcurrentHashMap@.all#) w(ConcurrentHashMap@.look#) r(ConcurrentHashMap@.clear) r(ConcurrentHashMap@.key#)
-        map.values().remove("a"); //: r(ConcurrentHashMap@.clear) r(ConcurrentHashMap@.all#) w(ConcurrentHashMap@.look#) w(ConcurrentHashMap@.clear)
+        map.values().remove("a"); //: r(ConcurrentHashMap@.clear) r(ConcurrentHashMap@.all#) w(ConcurrentHashMap@.look#) r(ConcurrentHashMap@.clear) r(ConcurrentHashMap@.all#) w(ConcurrentHashMap@.look#)
     }
 
     static class Counter implements Runnable {

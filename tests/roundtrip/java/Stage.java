@@ -116,7 +116,8 @@ public class Stage {
     /** Makes sure that a map or a collection has the key, or hasn't. */
     @SuppressWarnings("unchecked")
     static void with(int at, Object key) {
-        if (at(at) instanceof Map) ((Map<Object, Object>) at(at)).put(key, 0);
+        // Own.Table has a put of its own, which has events.
+        if (at(at) instanceof Map) ((Map<Object, Object>) at(at)).compute(key, (q, s) -> 0);
         else ((Collection<Object>) at(at)).add(key);
     }
     static void without(int at, Object key) {

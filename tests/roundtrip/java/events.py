@@ -2,6 +2,8 @@
 
 An own event is never read: a read of a variable by the thread that has written it last is left out, here and of the log.
 """
+import re
+
 from traces import event_of
 
 
@@ -12,6 +14,7 @@ class Events:
         self.program, self.counts, self.permits = program, {}, dict(program.first_permits)
         self.releases, self.parties, self.lookers, self.writer = {}, {}, {}, {}
         self.items, self.found_none, self.found_some = {}, {}, {}
+        self.saw_first, self.saw_last = {}, {}
         self.done, self.situations = set(), {}
 
     def all(self):
@@ -109,10 +112,15 @@ class Events:
         it, name = self.program.others[step.target], "%s.item%d" % (step.target, self.count(step.target))
         often = 0.7 if step.target.startswith("deque") else 0.3
         token = "Stage.SAME" if "equal" in it.traits and self.program.chance(often) else '"item %d"' % (10000 + step.number)
+        # Each object of a sorted queue is before those that were put there.
+        is_sorted = "sorted" in it.traits
+        token = '"item %d"' % (90000 - step.number) if is_sorted else token
         self.situate(step, token=token)
         items = self.items.setdefault(step.target, [])
-        items.insert(len(items) if at is None else at, (name, step.thread, token))
-        return self.others(step, "none", self.found_none.get(step.target, ())) + [("w", name)]
+        items.insert(0 if is_sorted else len(items) if at is None else at, (name, step.thread, token))
+        nones, firsts = self.others(step, "none", self.found_none.get(step.target, ())), self.others(step, "first", self.saw_first.get(step.target, ()))
+        lasts = self.others(step, "last", self.saw_last.get(step.target, ()))
+        return nones + ([("w", name)] + firsts if is_sorted else (lasts if at is None else firsts) + [("w", name)])
 
     of_send = of_put
 
@@ -128,7 +136,12 @@ class Events:
         return [("r", name) for name, thread, _ in items if thread != step.thread] + self.took(step)
 
     def took(self, step):
-        return self.others(step, "head", self.found_some.get(step.target, ())) + self.saw_again(step)
+        return self.changed(step) + self.saw_again(step)
+
+    def changed(self, step):
+        if "sorted" in self.program.others[step.target].traits:
+            self.saw_first.pop(step.target, None)
+        return self.others(step, "head", self.found_some.get(step.target, ()))
 
     def saw_again(self, step):
         found = self.found_some.setdefault(step.target, set())
@@ -139,8 +152,12 @@ class Events:
 
     def saw_none(self, step):
         again = self.saw_again(step)
-        self.found_none.setdefault(step.target, set()).add(step.thread)
+        self.note_none(step)
         return again + self.own(step, "none")
+
+    def note_none(self, step):
+        self.found_none.setdefault(step.target, set()).add(step.thread)
+        return True
 
     def saw_some(self, step):
         self.found_some.setdefault(step.target, set()).add(step.thread)
@@ -158,12 +175,17 @@ class Events:
         return self.taken(step, self.inside(step)[-1:])
 
     def of_drain(self, step):
-        blocking = "blocking" in self.program.others[step.target].traits
-        return self.taken(step, list(self.inside(step))) if blocking else self.of_clear(step)
+        items = list(self.inside(step))
+        if "blocking" not in self.program.others[step.target].traits:
+            return self.of_clear(step) if items else self.saw_none(step)
+        some = self.program.chance(0.3)
+        self.situate(step, ("some",) if some else ())
+        return self.taken(step, items) + (self.own(step, "none") if items and not some and self.note_none(step) else [])
 
     def of_clear(self, step):
-        self.items[step.target] = []
-        return self.took(step)
+        gone, self.items[step.target] = self.inside(step), []
+        gone.sort(key=lambda one: int(re.search(r"\d+$", one[0])[0]))
+        return [("r", name) for name, thread, _ in gone if thread != step.thread] + self.changed(step) + self.saw_none(step)
 
     def of_pull(self, step, order=1):
         """Takes out an object that is drawn: of equal ones the first or the last."""
@@ -176,6 +198,7 @@ class Events:
         return self.of_pull(step, -1)
 
     def of_empty(self, step):
+        self.situate(step, () if self.inside(step) else ("none",))
         return self.saw_some(step) if self.inside(step) else self.saw_none(step)
 
     def of_count(self, step):
@@ -187,7 +210,15 @@ class Events:
             self.situate(step, ("none",))
             return self.saw_none(step)
         name, thread, _ = items[at]
-        return ([("r", name)] if thread != step.thread else []) + self.saw_some(step)
+        return ([("r", name)] if thread != step.thread else []) + self.saw_some(step) + self.saw_end(step, at)
+
+    def saw_end(self, step, at):
+        """A put may change what stands at an end of a deque, or at the front of a sorted queue."""
+        if not self.program.others[step.target].traits & {"deque", "sorted"}:
+            return []
+        seen, part = (self.saw_first, "first") if at == 0 else (self.saw_last, "last")
+        seen.setdefault(step.target, set()).add(step.thread)
+        return self.own(step, part)
 
     def of_peek_last(self, step):
         return self.of_peek(step, -1)
@@ -207,7 +238,8 @@ class Events:
         """Returns the name of the key that a step reads or writes, and tells its text."""
         kind, number = self.program.others[step.target].keys, step.number % 2
         self.situate(step, key='Stage.key("%s", %d)' % (kind, number))
-        return "%s.key%s" % (step.target, "" if kind == "same" else number)
+        is_one = kind == "same" or "compared" in self.program.others[step.target].traits
+        return "%s.key%s" % (step.target, "" if is_one else number)
 
     def write(self, step, name):
         self.writer[name] = step.thread

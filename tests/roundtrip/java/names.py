@@ -6,7 +6,7 @@ from compare import Difference, Line
 MARK = re.compile(r"^Mark\[\]@\d+\[(\d+)\]$")
 #: Events of maps and sets that docs/java-events.md has beside those of a key: looks, and writes of keys.
 BESIDE = re.compile(r".*@\d+\.(all|look)\d+$")
-PART = re.compile(r"^(.*@\d+)\.((?:phase\d+\.)?(?:all|look|item|permit|none|head)\d+|clear|key\S*)$")
+PART = re.compile(r"^(.*@\d+)\.((?:(?:phase|meeting)\d+\.)?(?:all|look|item|permit|none|head|first|last)\d+|clear|key\S*)$")
 #: Blocks and monitors of Deep.java, where a stack overflows: nobody knows how many there are.
 DEEP = re.compile(r"^Deep\b")
 

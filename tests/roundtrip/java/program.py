@@ -97,7 +97,8 @@ class JavaProgram(Program):
     def part_of_barrier(self, step):
         """Returns what a thread writes when it arrives, but for its number."""
         phases = "phases" in self.others[step.target].traits
-        return self.object_of(step) + (".phase%d.all" % self.barriers[id(step.meeting)][1] if phases else ".all")
+        before = self.barriers[id(step.meeting)][1]
+        return self.object_of(step) + (".phase%d.all" % before if phases else ".meeting%d.all" % (before + 1))
 
     def lines(self):
         """Yields the lines of the trace with the step of each. A join of a task's thread orders as its result does."""

@@ -50,16 +50,16 @@ QUEUE = {
                  + calls(["addLast($token)", "offerLast($token)"], "deque") + calls(["putLast($token)"], "deque blocking")),
     "get": forms(looks(["poll()", "remove()"]) + looks(["take()", "poll(99, TimeUnit.SECONDS)"], "blocking")
                  + looks(["pollFirst()", "removeFirst()", "pop()"], "deque") + looks(["takeFirst()"], "deque blocking")),
-    "empty": forms(looks(["isEmpty()"])),
-    "count": forms(looks(["size()", "contains(5)", "toArray()", "iterator()", "stream()", "containsAll(List.of())"]) + calls(["forEach(q -> Stage.use(q))"])
+    "empty": forms(looks(["isEmpty()"]) + looks(["contains(5)"], "none") + looks(["containsAll(List.of())"], "-none")),
+    "count": forms(looks(["size()", "toArray()", "iterator()", "stream()"]) + calls(["forEach(q -> Stage.use(q))"])
                    + looks(["remainingCapacity()"], "blocking") + looks(["descendingIterator()"], "deque")),
     "peek": forms(looks(["peek()"]) + looks(["element()"], "-none") + [thrown("element that fails", "element()", "NoSuchElementException", "none")]
                   + looks(["peekFirst()"], "deque") + looks(["getFirst()"], "deque -none")),
-    "miss": forms([refused("poll that fails", "poll() != null"), thrown("remove that fails", "remove()", "NoSuchElementException"),
+    "miss": forms([refused("poll that fails", "poll() != null"), refused("remove of a missing object", 'remove((Object) "none")'), thrown("remove that fails", "remove()", "NoSuchElementException"),
                    refused("poll with a time that fails", "poll(1, TimeUnit.MILLISECONDS) != null", "blocking"),
                    refused("pollLast that fails", "pollLast() != null", "deque"), thrown("pop that fails", "pop()", "NoSuchElementException", "deque")]),
-    "drain": forms(looks(["drainTo(new %s)" % to for to in ("ArrayList<Object>()", "LinkedList<Object>(List.of(1))", "ArrayDeque<Object>()")]
-                         + ["drainTo(new ArrayList<Object>(List.of(1)), 99)"], "blocking") + calls(["removeIf(q -> true)"], "-blocking")),
+    "drain": forms(looks(["drainTo(new %s)" % to for to in ("ArrayList<Object>()", "LinkedList<Object>(List.of(1))", "ArrayDeque<Object>()")], "blocking -some")
+                   + looks(["drainTo(new ArrayList<Object>(List.of(1)), 99)"], "some") + calls(["removeIf(q -> true)"], "-blocking")),
     "clear": forms(calls(["clear()", "removeIf(q -> true)", "retainAll(List.of())"])),
     "put-first": forms(calls(["addFirst($token)", "offerFirst($token)", "push($token)"]) + calls(["putFirst($token)"], "blocking")),
     "get-last": forms(looks(["pollLast()", "removeLast()"]) + looks(["takeLast()"], "blocking")),
@@ -96,8 +96,9 @@ def giving(name, before, call, result, needs=""):
 
 
 MAP = {
-    "store": forms(calls(["put($key, 1)", "compute($key, (q, s) -> 3)", "merge($key, 1, (q, s) -> 4)", "remove($key)", "replace($key, 5)",
-                          "remove($key, 77)", "replace($key, 5, 6)"]) + [
+    "store": forms(calls(["put($key, 1)", "compute($key, (q, s) -> new Object())", "merge($key, 1, (q, s) -> new Object())"]) + [
+        giving("remove", PUT, "remove($key)", 0), giving("remove of a value", PUT, "remove($key, 0)", "true"),
+        giving("replace", PUT, "replace($key, 5)", 0), giving("replace of a value", PUT, "replace($key, 0, 6)", "true"),
         giving("putIfAbsent", DROP, "putIfAbsent($key, 7)", "null"), giving("computeIfAbsent", DROP, "computeIfAbsent($key, q -> 8)", 8),
         giving("computeIfPresent", PUT, "computeIfPresent($key, (q, s) -> 9)", 9), giving("compute to null", PUT, "compute($key, (q, s) -> null)", "null"),
         giving("merge", PUT, "merge($key, 4, (q, s) -> s)", 4), giving("merge to null", PUT, "merge($key, 4, (q, s) -> null)", "null"),
@@ -106,20 +107,23 @@ MAP = {
         giving("putIfAbsent of a present key", PUT, "putIfAbsent($key, 7)", 0),
         giving("computeIfAbsent of a present key", PUT, "computeIfAbsent($key, q -> 8)", 0),
         giving("computeIfAbsent to null", DROP, "computeIfAbsent($key, q -> null)", "null", "hashed"),
-        giving("computeIfPresent of an absent key", DROP, "computeIfPresent($key, (q, s) -> 9)", "null", "hashed"),
+        giving("computeIfPresent of an absent key", DROP, "computeIfPresent($key, (q, s) -> 9)", "null"),
+        giving("remove of an absent key", DROP, "remove($key)", "null"), giving("remove of another value", PUT, "remove($key, 77)", "false"),
+        giving("replace of an absent key", DROP, "replace($key, 5)", "null"), giving("replace of another value", PUT, "replace($key, 5, 6)", "false"),
+        giving("compute to the same value", PUT, "compute($key, (q, s) -> s)", 0, "hashed"),
         giving("compute of null to null", DROP, "compute($key, (q, s) -> null)", "null", "hashed")]),
     "view": forms(looks(["size()", "isEmpty()", "keySet()", "values()", "entrySet()", "containsValue(3)"]) + looks(["hashCode()", "equals(Map.of())"], "-typed")
                   + calls(["forEachKey(9, q -> Stage.use(q))", "forEachValue(9, q -> Stage.use(q))", "forEachEntry(9, q -> Stage.use(q))"], "hashed -typed")
                   + calls(["forEach((q, s) -> Stage.use(q))"])
                   + looks(["mappingCount()", "keys()", "elements()", "contains(4)", "search(9, (q, s) -> null)"], "hashed -typed")
                   + looks(["floorKey($key)", "higherEntry($key)", "headMap($key)", "descendingMap()", "navigableKeySet()", "firstEntry()"], "sorted")),
-    "wipe": forms(calls(["clear()", "putAll(Map.of($key, 2))", "replaceAll((q, s) -> 4)"]) + calls(["pollFirstEntry()"], "sorted"))}
+    "wipe": forms(calls(["clear()", "putAll(Map.of($key, 2))", "replaceAll((q, s) -> 4)"]) + [("pollFirstEntry", PUT + "$k.pollFirstEntry();", "sorted")])}
 SET = {
-    "store": forms([("add", DROP + "$k.add($key);"), ("remove", "$k.remove($key);"), ("remove of a present key", PUT + "$k.remove($key);")]),
-    "fetch": forms(looks(["contains($key)"]) + [("add of a present key", PUT + "$k.add($key);")]),
+    "store": forms([("add", DROP + "$k.add($key);"), ("remove", PUT + "$k.remove($key);")]),
+    "fetch": forms(looks(["contains($key)"]) + [("remove of an absent key", DROP + "$k.remove($key);"), ("add of a present key", PUT + "$k.add($key);")]),
     "view": forms(looks(["size()", "isEmpty()", "iterator()", "toArray()", "containsAll(List.of())", "hashCode()", "equals(Set.of())"]) + calls(["forEach(q -> Stage.use(q))"])
                   + looks(["floor($key)", "higher($key)", "headSet($key)", "descendingSet()"], "sorted")),
-    "wipe": forms(calls(["clear()", "removeIf(q -> true)", "addAll(List.of($key))", "retainAll(List.of())"]) + looks(["pollFirst()"], "sorted"))}
+    "wipe": forms(calls(["clear()", "removeIf(q -> true)", "addAll(List.of($key))", "retainAll(List.of())"]) + [("pollFirst", PUT + "$k.pollFirst();", "sorted")])}
 HASH, SKIP = "ConcurrentHashMap", "ConcurrentSkipListMap"
 MAPS = [Other("a %s as a %s" % (HASH, kind), "new %s<Object, Object>()" % HASH, "%s<Object, Object>" % kind, MAP, HASH + r"@\d+", traits)
         for kind, traits in ((HASH, "hashed"), ("ConcurrentMap", "hashed typed"), ("Map", "hashed typed"))] + [
@@ -127,6 +131,8 @@ MAPS = [Other("a %s as a %s" % (HASH, kind), "new %s<Object, Object>()" % HASH, 
     Other("a class that extends %s by its own type" % HASH, "new Own.Table()", "Own.Table", MAP, r"Own\$Table@\d+", "typed"),
     Other("a set made of a " + HASH, "Collections.newSetFromMap(new %s<Object, Boolean>())" % HASH, "Set<Object>", SET, HASH + r"@\d+", "hashed"),
     Other("a " + SKIP, "new %s<Object, Object>()" % SKIP, SKIP + "<Object, Object>", MAP, SKIP + r"@\d+", "sorted"),
+    Other("a %s with a comparator" % SKIP, "new %s<Object, Object>(Comparator.comparing(Object::toString))" % SKIP, SKIP + "<Object, Object>", MAP,
+          SKIP + r"@\d+", "sorted compared"),
     Other("newKeySet", HASH + ".<Object>newKeySet()", "Set<Object>", SET, HASH + r"@\d+", "hashed"),
     Other("newKeySet by its own type", HASH + ".<Object>newKeySet()", HASH + ".KeySetView<Object, Boolean>", SET, HASH + r"@\d+", "hashed"),
     Other("a ConcurrentSkipListSet", "new ConcurrentSkipListSet<Object>()", "ConcurrentSkipListSet<Object>", SET, r"ConcurrentSkipListSet@\d+", "sorted")]
@@ -172,7 +178,7 @@ OTHERS = {
     "queue": [queue("LinkedBlockingQueue", "blocking equal"), queue("ArrayBlockingQueue", "blocking equal", "9"),
               queue("LinkedBlockingDeque", "blocking deque equal"), queue("ConcurrentLinkedQueue", "equal"),
               queue("ConcurrentLinkedDeque", "deque equal"), queue("LinkedTransferQueue", "blocking equal"),
-              queue("PriorityBlockingQueue", "blocking"), queue("LinkedBlockingQueue", "blocking equal", "", "BlockingQueue"),
+              queue("PriorityBlockingQueue", "blocking sorted"), queue("LinkedBlockingQueue", "blocking equal", "", "BlockingQueue"),
               queue("ConcurrentLinkedQueue", "equal", "", "Queue"), queue("ArrayBlockingQueue", "equal", "9", "Queue"),
               Other("a class that extends LinkedBlockingQueue", "new Own.Mailbox()", "Own.Mailbox", QUEUE, r"Own\$Mailbox@\d+", "blocking equal"),
               Other("a checked queue", "Collections.checkedQueue(new LinkedBlockingQueue<Object>(), Object.class)", "Queue<Object>", QUEUE,

@@ -200,9 +200,21 @@ MAP_WRITES = ['put("a", 1)', 'remove("a")', "clear()", 'putAll(Map.of("c", 2))',
 MAP_READS = ['get("a")', 'containsKey("b")', "size()", "isEmpty()", 'getOrDefault("a", 3)', "containsValue(4)", "keySet()", "entrySet()"]
 LIST_WRITES = ["add(1)", "set(0, 4)", "add(0, 3)"]
 LIST_READS = ["get(0)", "size()", "contains(3)"]
-KEY_WRITES = ['put("a", 1)', 'merge("a", 1, Integer::sum)', 'compute("a", (q, s) -> 3)', 'remove("a")', 'replace("a", 3)']
-KEY_READS = ['get("a")', 'containsKey("a")', 'getOrDefault("a", 2)']
+#: Behind what makes sure that it changes something, or doesn't, and has no event.
+PUT, DROP = 'Stage.with($n, %s); $x.%s;', 'Stage.without($n, %s); $x.%s;'
+
+
+def behind(before, key, calls_of_key):
+    return [(call + (" behind a put" if before == PUT else " behind a remove"), before % (key, call), "collection") for call in calls_of_key]
+
+
+KEY_WRITES = ['put("a", 1)', 'merge("a", 1, Integer::sum)', 'compute("a", (q, s) -> s == null ? 3 : s + 1)'] + behind(
+    PUT, '"a"', ['remove("a")', 'replace("a", 3)', 'remove("a", 0)', 'replace("a", 0, 4)'])
+KEY_READS = ['get("a")', 'containsKey("a")', 'getOrDefault("a", 2)'] + behind(DROP, '"a"', ['remove("a")', 'replace("a", 3)', 'remove("a", 0)']) + behind(
+    PUT, '"a"', ['remove("a", 9)', 'replace("a", 9, 4)'])
 SET_WRITES, SET_READS = ["add(7)", "remove(8)", "clear()"], ["contains(3)", "size()", "isEmpty()"]
+#: Of sets for several threads, which know what changes them.
+OWN_WRITES, OWN_READS = behind(DROP, 7, ["add(7)"]) + behind(PUT, 8, ["remove(8)"]), behind(PUT, 7, ["add(7)"]) + behind(DROP, 8, ["remove(8)"])
 #: Collections: the type, its elements at first or what makes it, the calls that write and that read it, and its traits.
 COLLECTIONS = [
     ("HashMap<String, Integer>", "", MAP_WRITES, MAP_READS, ""), ("TreeMap<String, Integer>", "", MAP_WRITES, MAP_READS, ""),
@@ -210,7 +222,7 @@ COLLECTIONS = [
     ("WeakHashMap<String, Integer>", "", MAP_WRITES, MAP_READS, ""), ("IdentityHashMap<String, Integer>", "", MAP_WRITES, MAP_READS, ""),
     ("Properties", "", ['setProperty("a", "b")', 'put("a", "c")', "clear()"], ['getProperty("a")', "size()", 'get("a")'], ""),
     ("ConcurrentHashMap<String, Integer>", "", KEY_WRITES, KEY_READS, "keys"), ("ConcurrentSkipListMap<String, Integer>", "", KEY_WRITES, KEY_READS, "keys"),
-    ("ConcurrentSkipListSet<Object>", "", ['remove("a")'], ['contains("a")'], "keys"),
+    ("ConcurrentSkipListSet<Object>", "", behind(PUT, '"a"', ['remove("a")']), ['contains("a")'] + behind(DROP, '"a"', ['remove("a")']), "keys"),
     ("ArrayList<Object>", "List.of(1, 2)", LIST_WRITES + ["addAll(List.of(1, 2))", "removeIf(q -> false)"],
      LIST_READS + ["indexOf(4)", "isEmpty()", "iterator()", "toArray()"], "iterated listed"),
     ("LinkedList<Object>", "List.of(1, 2)", LIST_WRITES + ["addFirst(4)", "add(5)", "push(6)"], LIST_READS + ["getFirst()", "isEmpty()"], "iterated listed"),
@@ -219,8 +231,9 @@ COLLECTIONS = [
     ("PriorityQueue<Object>", "List.of(1, 2)", ["add(1)", "offer(3)"], ["peek()", "size()", "isEmpty()"], "iterated"),
     ("HashSet<Object>", "List.of(1, 2)", SET_WRITES, SET_READS, "iterated"), ("TreeSet<Object>", "List.of(1, 2)", SET_WRITES, SET_READS + ["floor(3)"],
         "iterated"),
-    ("LinkedHashSet<Object>", "List.of(1, 2)", SET_WRITES, SET_READS, "iterated"), ("CopyOnWriteArraySet<Object>", "List.of(1, 2)", SET_WRITES, SET_READS, ""),
-    ("CopyOnWriteArrayList<Object>", "List.of(1, 2)", LIST_WRITES + ["addIfAbsent(77)"], LIST_READS, ""),
+    ("LinkedHashSet<Object>", "List.of(1, 2)", SET_WRITES, SET_READS, "iterated"), ("CopyOnWriteArraySet<Object>", "List.of(1, 2)", OWN_WRITES + ["clear()"],
+        SET_READS + OWN_READS, ""),
+    ("CopyOnWriteArrayList<Object>", "List.of(1, 2)", LIST_WRITES + behind(DROP, 77, ["addIfAbsent(77)"]), LIST_READS + behind(PUT, 78, ["addIfAbsent(78)"]), ""),
     ("Vector<Object>", "List.of(1, 2)", LIST_WRITES + ["addElement(3)", "insertElementAt(3, 0)"], LIST_READS + ["elementAt(0)", "isEmpty()"], "iterated listed"),
     ("BitSet", "", ["set(3)", "flip(4)", "clear()"], ["get(3)", "cardinality()", "isEmpty()"], ""),
     ("List<Object>", "Collections.synchronizedList(new ArrayList<Object>(List.of(1, 2)))", LIST_WRITES, LIST_READS, ""),
@@ -236,7 +249,8 @@ def collection(program, it):
     new = first if first.startswith("Collections.") else "new %s(%s)" % (kind, first)
     pattern = name + r"@\d+\.key.*" if "keys" in traits else r".*%s@\d+" % name
     it.place = Place("a " + name, "((%s) Stage.at($n))" % kind, pattern, "collection " + traits, start="Stage.put($n, %s);" % new)
-    it.writes, it.reads = forms(calls("collection", writes)), forms(calls("collection", reads, True))
+    it.writes, it.reads = (forms(calls("collection", [one for one in all_of if isinstance(one, str)], read) + [one for one in all_of if not isinstance(one, str)])
+                           for all_of, read in ((writes, False), (reads, True)))
 
 
 def make_variable(program, number, name):

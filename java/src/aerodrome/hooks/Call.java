@@ -6,19 +6,25 @@ import aerodrome.log.LoggedThread;
 import aerodrome.names.FieldName;
 import aerodrome.names.Numbers;
 import java.lang.invoke.VarHandle;
+import java.util.Collection;
 import java.util.NoSuchElementException;
 import java.util.concurrent.ConcurrentHashMap;
+import java.util.concurrent.CopyOnWriteArrayList;
+import java.util.concurrent.CopyOnWriteArraySet;
 import java.util.concurrent.CountDownLatch;
 import java.util.concurrent.Phaser;
 import java.util.concurrent.atomic.AtomicIntegerArray;
 import java.util.concurrent.atomic.AtomicLongArray;
 import java.util.concurrent.atomic.AtomicReferenceArray;
 import java.util.concurrent.locks.StampedLock;
+import java.util.function.BooleanSupplier;
 
 /** A call that is logged, from before it to behind it. */
 public final class Call {
     private final LoggedThread me;
     private final Object receiver, argument;
+    /** The value that a call of a map expects under its key; null: any. */
+    private final Object expected;
     /** The collection or map behind the receiver, or that of an iterator; the receiver itself, if it is neither. */
     private Object of;
     private final long index;
@@ -30,14 +36,22 @@ public final class Call {
     private Queues.Before queue;
     /** In which it arrived at a phaser. */
     private int phase;
+    /** For which it arrived at a barrier. */
+    private Meetings meeting;
     private boolean wasWithin;
+    /** Whether it is a read as there was nothing to change, which another thread may have brought since. */
+    private boolean mayChange;
 
     /** @param index of the element that is accessed, or an offset; below 0: none */
     Call(LoggedThread me, Object receiver, Object argument, long index, int site) {
+        this(me, receiver, argument, index, null, site);
+    }
+    Call(LoggedThread me, Object receiver, Object argument, long index, Object expected, int site) {
         this.me = me;
         this.receiver = receiver;
         this.argument = argument;
         this.index = index;
+        this.expected = expected;
         this.site = site;
     }
 
@@ -57,11 +71,11 @@ public final class Call {
             case OPEN_ADD: Parts.hold(me, receiver, Parts.Way.ADDS, site); return;
             case OPEN_LOOK: Parts.hold(me, receiver, Parts.Way.LOOKS, site); return;
             case OPEN_RESET: Parts.hold(me, receiver, Parts.Way.RESETS, site); return;
-            case SIGNAL: case MEET: Parts.write(me, receiver, Parts.Way.ADDS, site); return;
+            case SIGNAL: Parts.write(me, receiver, Parts.Way.ADDS, site); return;
+            case MEET: me.arriving = this; return;
             case COUNT_DOWN: Parts.countDown(me, (CountDownLatch) receiver, site); return;
             case ARRIVE: case ARRIVE_AND_WAIT: phase = Phases.arrive(me, (Phaser) receiver, site); return;
             case RESETTING: Parts.write(me, receiver, Parts.Way.RESETS, site); return;
-            case READ_BEFORE: write(Events.READ); return;
             case READ_IF_HELD:
                 if (((StampedLock) receiver).isReadLocked()) write(Events.READ);
                 return;
@@ -71,6 +85,7 @@ public final class Call {
             case STAMPED: beforeStamped(); return;
             case WRITE_BEFORE: Log.write(variable(Events.WRITE)); return;
             case COLLECTION_WRITE: Events.write(me, Events.WRITE, of, site); return;
+            case COLLECTION_ADD: case COLLECTION_ADD_NEW: case COLLECTION_REMOVE: beforeCopying(); return;
             case UNLOCK: Locks.unlocking(me, receiver, site); return;
             case WAIT: times = Thread.holdsLock(receiver) ? Events.release(me, receiver, Integer.MAX_VALUE, site) : 0; return;
             case AWAIT: times = Locks.giveBack(me, receiver, site); return;
@@ -79,43 +94,69 @@ public final class Call {
             case SEND: case SEND_FIRST: case HAND: case HAND_OVER:
                 queue = Queues.of(of).put(me, of, argument, kind, site);
                 return;
-            case SEND_MANY: queue = Queues.of(of).putMany(me, of, site); return;
-            case RECEIVE: case RECEIVE_LAST: case PULL: case PULL_LAST: case PURGE: queue = Queues.of(of).take(); return;
-            case DRAIN: queue = Queues.of(of).drain(argument); return;
-            case PEEK: case PEEK_LAST: case LOOK: case COUNT: queue = Queues.of(of).look(); return;
+            case SEND_MANY: queue = Queues.of(of).putMany(); return;
+            case RECEIVE: case RECEIVE_LAST: case PULL: case PULL_LAST: case PURGE: case SIFT:
+                queue = Queues.of(of).take();
+                return;
+            case DRAIN: case DRAIN_SOME: queue = Queues.of(of).drain(argument); return;
+            case PEEK: case PEEK_LAST: case LOOK: case SEEK: case COUNT: queue = Queues.of(of).look(); return;
             case UNPARK:
                 if (argument != null) Parts.write(me, argument, Parts.Way.ADDS, site);
                 return;
             case KEY_WRITE: case WHOLE_WRITE: Maps.write(me, kind, of, argument, site); return;
-            case KEY_IF_ABSENT: case KEY_WITHIN: beforeChange(); return;
+            case KEY_IF_ABSENT: case KEY_IF_PRESENT: case KEY_WITHIN: beforeChange(); return;
+            case WHOLE_TAKE: beforeTake(); return;
             case ITERATOR_WRITE: beforeIterator(); return;
             default:
         }
     }
 
-    /** A stamp that stands for no lock may get one. */
+    /** A stamp that stands for no lock may get one. One that isn't valid is refused. */
     private void beforeStamped() {
-        if (StampedLock.isWriteLockStamp(index)) write(Events.WRITE);
-        else if (StampedLock.isReadLockStamp(index)) write(Events.READ);
-        else kind = Kind.READ_IF_TRUE;
+        boolean isWriter = StampedLock.isWriteLockStamp(index), isReader = StampedLock.isReadLockStamp(index);
+        if (!isWriter && !isReader) kind = Kind.READ_IF_TRUE;
+        else if (ask(() -> ((StampedLock) receiver).validate(index))) write(isWriter ? Events.WRITE : Events.READ);
     }
 
     private long permits() { return Math.max(index, index < 0 ? 1 : 0); }
 
     private void beforeChange() {
-        boolean isIfAbsent = kind == Kind.KEY_IF_ABSENT;
-        kind = receiver.getClass() == ConcurrentHashMap.class ? Kind.KEY_WITHIN
-                : isIfAbsent && argument != null && hasKey() ? Kind.KEY_READ : Kind.KEY_WRITE;
-        if (kind == Kind.KEY_WRITE) Maps.write(me, kind, of, argument, site);
+        boolean isIfAbsent = kind == Kind.KEY_IF_ABSENT, isIfPresent = kind == Kind.KEY_IF_PRESENT;
+        if (receiver.getClass() == ConcurrentHashMap.class) {
+            kind = Kind.KEY_WITHIN;
+            return;
+        }
+        boolean isKept = argument != null && (isIfAbsent || isIfPresent) && hasKey() == isIfAbsent;
+        mayChange = isKept && isIfPresent;
+        kind = isKept ? Kind.KEY_READ : Kind.KEY_WRITE;
+        if (!isKept) Maps.write(me, kind, of, argument, site);
     }
+    private boolean hasKey() { return ask(() -> Maps.hasKey(of, argument, expected)); }
     /** Asks the map or set without logging what methods of the program do for the answer: the program hasn't asked. */
-    private boolean hasKey() {
+    private boolean ask(BooleanSupplier question) {
         me.isQuiet = true;
         try {
-            return Maps.hasKey(of, argument);
+            return question.getAsBoolean();
         } finally {
             me.isQuiet = false;
         }
+    }
+
+    /** A set, a map or a view of one that hasn't what is to be taken out of it isn't changed. */
+    private void beforeTake() {
+        mayChange = ask(() -> !Maps.hasSome(receiver, argument));
+        kind = mayChange ? Kind.WHOLE_READ : Kind.WHOLE_WRITE;
+        if (!mayChange) Maps.write(me, kind, of, argument, site);
+    }
+
+    /** Those that are copied when they are changed take no lock for a call that changes nothing. */
+    private void beforeCopying() {
+        boolean isSet = of instanceof CopyOnWriteArraySet, isCopied = isSet || of instanceof CopyOnWriteArrayList;
+        boolean removes = kind == Kind.COLLECTION_REMOVE && index < 0, adds = isSet || kind == Kind.COLLECTION_ADD_NEW;
+        boolean mayStay = isCopied && (removes || kind != Kind.COLLECTION_REMOVE && adds);
+        mayChange = mayStay && ask(() -> ((Collection<?>) of).contains(argument)) != removes;
+        kind = mayChange ? Kind.COLLECTION_READ : Kind.COLLECTION_WRITE;
+        if (!mayChange) Events.write(me, Events.WRITE, of, site);
     }
     boolean isWithin() { return kind == Kind.KEY_WITHIN; }
     /** Within the call: the key is changed, or only looked at. */
@@ -123,10 +164,21 @@ public final class Call {
         wasWithin = true;
         if (Log.on) Maps.write(me, isChanged ? Kind.KEY_WRITE : Kind.KEY_READ, of, argument, site);
     }
+    /** The function of an update has given the next value, for the first time. */
+    void updates() {
+        if (!wasWithin && Log.on) Log.write(variable(Events.WRITE));
+        wasWithin = true;
+    }
+    /** The barrier has said for which meeting it arrives there. */
+    void arrives(Object barrier, Meetings next) {
+        if (barrier != receiver) return;
+        meeting = next;
+        next.arrive(me, barrier, site);
+    }
 
     private void beforeIterator() {
         of = Iterators.collection(receiver);
-        if (of == null || Maps.hasKeys(of) || !Views.isOpaque(of)) return;
+        if (of == null || Maps.hasKeys(of) || !Views.isOpaque(of) || Views.isUnmodifiable(receiver)) return;
         if (Calls.isQueue(of)) queue = Queues.of(of).take();
         else Events.write(me, Events.WRITE, of, site);
     }
@@ -139,7 +191,11 @@ public final class Call {
         switch (kind) {
             case READ: case WRITE: case STATE_READ: case STATE_WRITE: Log.unlock(); return;
             case OPEN_ADD: case OPEN_LOOK: case OPEN_RESET: Log.unlock(); return;
-            case SIGNALLED: case MEET: Parts.write(me, receiver, Parts.Way.WAITS, site); return;
+            case SIGNALLED: Parts.write(me, receiver, Parts.Way.WAITS, site); return;
+            case MEET:
+                me.arriving = null;
+                if (meeting != null) meeting.leave(me, receiver, site);
+                return;
             case SIGNALLED_IF_TRUE:
                 if (isTrue) Parts.write(me, receiver, Parts.Way.WAITS, site);
                 return;
@@ -156,7 +212,7 @@ public final class Call {
                 return;
             case COLLECTION_READ:
                 Views.gave(of, result);
-                Events.write(me, Events.READ, of, site);
+                Events.write(me, mayChange && isTrue ? Events.WRITE : Events.READ, of, site);
                 return;
             case COLLECTION_GET:
                 Events.write(me, result != null && Views.isInOrderOfAccess(of) ? Events.WRITE : Events.READ, of, site);
@@ -174,29 +230,39 @@ public final class Call {
             case ACQUIRE_IF_TRUE:
                 if (isTrue) Permits.of(me, receiver).acquire(me, receiver, permits(), site);
                 return;
-            case SEND_MANY: Queues.of(of).wasPut(null, true, queue); return;
-            case SEND: case SEND_FIRST: case HAND: Queues.of(of).wasPut(argument, isTrue, queue); return;
-            case HAND_OVER: Queues.of(of).handedOver(me, of, argument, result, queue, site); return;
+            case SEND_MANY: Queues.of(of).wasPutMany(me, of, isTrue, site); return;
+            case SEND: case SEND_FIRST: case HAND:
+                if (isTrue) Queues.of(of).wasPut(me, of, argument, queue, site);
+                else Queues.of(of).refused(me, of, argument, queue, site);
+                return;
+            case HAND_OVER: Queues.of(of).handedOver(me, of, result, queue, site); return;
             case RECEIVE: case RECEIVE_LAST: Queues.of(of).took(me, of, result, isLast(), queue, site); return;
-            case DRAIN: Queues.of(of).drained(me, of, number, queue, site); return;
+            case DRAIN: case DRAIN_SOME: Queues.of(of).drained(me, of, number, kind == Kind.DRAIN, queue, site); return;
             case PEEK: case PEEK_LAST: Queues.of(of).peeked(me, of, result, isLast(), queue, site); return;
             case PULL: case PULL_LAST:
                 Queues.of(of).pulled(me, of, isTrue ? argument : null, isLast(), queue, site);
                 return;
-            case PURGE: Queues.of(of).purged(me, of, queue, site); return;
-            case ITERATOR_WRITE:
-                if (queue != null) Queues.of(of).purged(me, of, queue, site);
+            case PURGE: Queues.of(of).purged(me, of, true, queue, site); return;
+            case SIFT:
+                if (isTrue) Queues.of(of).purged(me, of, false, queue, site);
+                else Queues.of(of).keptAll(me, of, queue, site);
                 return;
-            case LOOK: Queues.of(of).looked(me, of, isTrue, queue, site); return;
+            case ITERATOR_WRITE:
+                if (queue != null) Queues.of(of).tookUnknown(me, of, queue, site);
+                return;
+            case LOOK: case SEEK: Queues.of(of).looked(me, of, isTrue == (kind == Kind.SEEK), queue, site); return;
             case COUNT: Queues.of(of).counted(me, of, queue, site); return;
             case KEY_WITHIN:
                 if (!wasWithin) Maps.write(me, Kind.KEY_READ, of, argument, site);
                 return;
-            case KEY_READ: Maps.write(me, kind, of, argument, site); return;
+            case KEY_READ:
+                Maps.write(me, mayChange && (isTrue || result != null) ? Kind.KEY_WRITE : kind, of, argument, site);
+                return;
             case WHOLE_READ:
                 Views.gave(of, result);
-                Maps.write(me, kind, of, argument, site);
+                Maps.write(me, mayChange && (isTrue || result != null) ? Kind.WHOLE_WRITE : kind, of, argument, site);
                 return;
+            case UPDATE: updates(); return;
             default:
         }
     }
@@ -224,8 +290,24 @@ public final class Call {
     void failed(Throwable thrown) {
         Log.unlock();
         if (queue != null) failedQueue(thrown);
+        else if (thrown instanceof RuntimeException) failedRead(thrown);
+        if (kind == Kind.MEET) me.arriving = null;
         if (kind == Kind.WAIT) Events.acquire(me, receiver, times, site);
         if (kind == Kind.AWAIT) Locks.takeBack(me, receiver, times, site);
+    }
+
+    /** Of a call that is logged behind it. It has looked before it failed, unless it was given no key to look for. */
+    private void failedRead(Throwable thrown) {
+        if (thrown instanceof NullPointerException && argument == null && kind.ofKeys()) return;
+        switch (kind) {
+            case COLLECTION_READ: case COLLECTION_GET: case KEY_READ: case KEY_WITHIN: case WHOLE_READ: case LOOKED: case READ_AFTER:
+                after(null, 0);
+                return;
+            case UPDATE:
+                if (!wasWithin) Log.write(variable(Events.READ));
+                return;
+            default:
+        }
     }
 
     private boolean isLast() { return kind == Kind.RECEIVE_LAST || kind == Kind.PEEK_LAST || kind == Kind.PULL_LAST; }
@@ -234,8 +316,11 @@ public final class Call {
         Queues queues = Queues.of(of);
         boolean isNone = thrown instanceof NoSuchElementException;
         switch (kind) {
-            case SEND: case SEND_FIRST: case HAND: case HAND_OVER: queues.wasPut(argument, false, queue); return;
-            case SEND_MANY: queues.wasPut(null, false, queue); return;
+            case SEND: case SEND_FIRST: case HAND: case HAND_OVER:
+                if (thrown instanceof IllegalStateException) queues.refused(me, of, argument, queue, site);
+                else queues.wasNotPut(argument, queue);
+                return;
+            case SEND_MANY: queues.wasPutMany(me, of, false, site); return;
             case RECEIVE: case RECEIVE_LAST:
                 if (isNone) queues.took(me, of, null, isLast(), queue, site);
                 else queues.ended();
@@ -243,7 +328,10 @@ public final class Call {
             case PEEK: case PEEK_LAST:
                 if (isNone) queues.peeked(me, of, null, isLast(), queue, site);
                 return;
-            case LOOK: case COUNT: return;
+            case COUNT:
+                if (thrown instanceof RuntimeException) queues.counted(me, of, queue, site);
+                return;
+            case LOOK: case SEEK: return;
             default: queues.ended();
         }
     }

@@ -42,13 +42,20 @@ public final class Calls {
 
     /** Before a call. What it gives goes to `after` or `failed`, and is null where nothing is logged. */
     public static Call before(int code, Object receiver, Object argument, long index, int site) {
+        return before(code, receiver, argument, index, null, site);
+    }
+    /** The same of a call that expects a value under its key. */
+    public static Call before(int code, Object receiver, Object argument, Object expected, int site) {
+        return before(code, receiver, argument, -1, expected, site);
+    }
+    private static Call before(int code, Object receiver, Object argument, long index, Object expected, int site) {
         LoggedThread me = receiver == null ? null : LoggedThread.logging();
         if (me == null) return null;
         Object of = Kind.kind(code).mayBeOfView() ? Views.origin(receiver) : receiver;
         Kind kind = kind(code, receiver, of, argument);
         if (kind == Kind.NOTHING || me.initializing > 0 && kind.isAccess()) return null;
         Stir.place();
-        Call call = new Call(me, receiver, argument, index, site);
+        Call call = new Call(me, receiver, argument, index, expected, site);
         call.before(kind, of);
         return call;
     }
@@ -88,7 +95,7 @@ public final class Calls {
         if (kind.isOpen()) return receiver.getClass().getClassLoader() == null ? kind.closed() : kind.apart();
         if (argument == null && isUnsafe(receiver)) return Kind.NOTHING;
         if (!kind.isContents()) return kind;
-        if (!Views.isOpaque(of)) return Kind.NOTHING;
+        if (!Views.mayAccess(receiver, of, Kind.isChange(code))) return Kind.NOTHING;
         if (Kind.ofMap(code) != Kind.NOTHING && Maps.hasKeys(of)) return Maps.kind(Kind.ofMap(code), receiver);
         if (Kind.ofQueue(code) != Kind.NOTHING && isQueue(of)) return Views.ofQueue(Kind.ofQueue(code), receiver);
         if (kind == Kind.COLLECTION_COMPARE) return isComparedByIdentity(receiver) ? Kind.NOTHING : Kind.COLLECTION_READ;

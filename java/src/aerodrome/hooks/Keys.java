@@ -33,6 +33,12 @@ enum Keys {
 
     static Keys of(Object key) { return key == null ? NOT : OF.get(key.getClass()); }
 
+    /** Returns whether the natural order, if the key has one, takes it for the same as those that it equals, and as no others. */
+    static boolean isNatural(Object key) {
+        Class<?> of = key.getClass();
+        return of.getClassLoader() == null && !of.getName().equals("java.math.BigDecimal") || key instanceof Enum;
+    }
+
     /** One whose hash is made by the JDK's code alone. */
     private static boolean isValue(Class<?> of) throws ReflectiveOperationException {
         if (of.getClassLoader() != null) return isRecord(of) && isPlainRecord(of);

@@ -18,12 +18,17 @@ public enum Kind {
 
     STATE_READ(Group.STATE), STATE_WRITE(Group.STATE), STATE_SWAP(Group.STATE),
 
-    READ_BEFORE(Group.ORDER), WRITE_BEFORE(Group.ORDER), READ_AFTER(Group.ORDER), WRITE_AFTER(Group.ORDER),
+    WRITE_BEFORE(Group.ORDER), READ_AFTER(Group.ORDER), WRITE_AFTER(Group.ORDER),
+    /** A write within the call, once its function has given the next value; Updates.java. */
+    UPDATE(Group.ORDER),
     /** Behind the call if it gives true, or a number that isn't 0. */
     READ_IF_TRUE(Group.ORDER), WRITE_IF_TRUE(Group.ORDER),
     /** Before the call if any thread has the lock so. */
     READ_IF_HELD(Group.ORDER), WRITE_IF_HELD(Group.ORDER),
-    /** A read or a write before the call, by what its stamp says of the lock; a read behind it where the stamp stands for none. */
+    /**
+     * A read or a write before the call, by what its stamp says of the lock, if it is valid; a read behind it where the stamp stands
+     * for none.
+     */
     STAMPED(Group.ORDER),
     /** The threads that signal don't depend on each other: an addition before the call. Behind the call all of these are read. */
     SIGNAL(Group.ORDER), SIGNALLED(Group.ORDER),
@@ -31,7 +36,7 @@ public enum Kind {
     COUNT_DOWN(Group.ORDER), SIGNALLED_IF_TRUE(Group.ORDER),
     /** Of a phaser, by phase: arrivals, waits for the end of a phase, and both. */
     ARRIVE(Group.ORDER), AWAIT_PHASE(Group.ORDER), ARRIVE_AND_WAIT(Group.ORDER),
-    /** Both. */
+    /** Both, of a barrier, by meeting. */
     MEET(Group.ORDER),
     /** A look at all additions, behind the call, and what adds and looks, before it: of what calls a function of the program. */
     LOOKED(Group.ORDER), RESETTING(Group.ORDER),
@@ -42,6 +47,8 @@ public enum Kind {
     ACQUIRE(Group.ORDER), ACQUIRE_IF_TRUE(Group.ORDER), ACQUIRE_ALL(Group.ORDER), RELEASE(Group.ORDER),
     /** The argument is put into a queue; the result is taken out of it, or goes to a list; or it stays there. */
     SEND(Group.ORDER), RECEIVE(Group.ORDER), DRAIN(Group.ORDER), PEEK(Group.ORDER),
+    /** So many at most go to a list. */
+    DRAIN_SOME(Group.ORDER),
     /** The same at the other end of a queue than usual. */
     SEND_FIRST(Group.ORDER), RECEIVE_LAST(Group.ORDER), PEEK_LAST(Group.ORDER),
     /** It is put only if somebody waits for it; or it is given for another object. */
@@ -52,18 +59,22 @@ public enum Kind {
     UNPARK(Group.ORDER),
 
     KEY_READ(Group.KEYS), KEY_WRITE(Group.KEYS),
-    /** A write of the key if it isn't there, else a read. */
-    KEY_IF_ABSENT(Group.KEYS),
+    /** A write of the key if it isn't there, or if it is there with what is expected, else a read. */
+    KEY_IF_ABSENT(Group.KEYS), KEY_IF_PRESENT(Group.KEYS),
     /** A write by a function that is given to the map. */
     KEY_WITHIN(Group.KEYS),
     WHOLE_READ(Group.KEYS), WHOLE_WRITE(Group.KEYS),
+    /** A write of the whole if there is something to take out, else a read. */
+    WHOLE_TAKE(Group.KEYS),
 
-    /** Says whether the queue is empty, or what or how much is in it. */
-    LOOK(Group.QUEUE), COUNT(Group.QUEUE),
-    /** Takes the argument out, wherever it stands first or last, or many. */
-    PULL(Group.QUEUE), PULL_LAST(Group.QUEUE), PURGE(Group.QUEUE),
+    /** Says whether the queue is empty, whether it has the argument, or what or how much is in it. */
+    LOOK(Group.QUEUE), SEEK(Group.QUEUE), COUNT(Group.QUEUE),
+    /** Takes the argument out, wherever it stands first or last, or all, or some of all. */
+    PULL(Group.QUEUE), PULL_LAST(Group.QUEUE), PURGE(Group.QUEUE), SIFT(Group.QUEUE),
 
     COLLECTION_READ(Group.COLLECTION), COLLECTION_WRITE(Group.COLLECTION),
+    /** Writes, which may be reads of a collection for several threads: where it adds what isn't there, or removes what is. */
+    COLLECTION_ADD(Group.COLLECTION), COLLECTION_ADD_NEW(Group.COLLECTION), COLLECTION_REMOVE(Group.COLLECTION),
     /** A read of a key, which is a write if it moves the key: a map in the order of accesses does so. */
     COLLECTION_GET(Group.COLLECTION),
     /** A read by equals or hashCode, unless the class has those of Object. */
@@ -118,14 +129,25 @@ public enum Kind {
         return !(kind.ofState() || kind == WAIT || kind == LOCK || kind == TRY_LOCK || kind == UNLOCK);
     }
     public static boolean isOfCollection(int code) { return kind(code).isCollection(); }
+    /** Returns whether the call changes what it finds. */
+    static boolean isChange(int code) {
+        switch (kind(code)) {
+            case COLLECTION_READ: case COLLECTION_GET: case COLLECTION_COMPARE: return false;
+            case KEY_READ: case WHOLE_READ: case PEEK: case PEEK_LAST: case LOOK: case SEEK: case COUNT: return false;
+            default: return true;
+        }
+    }
     static Kind kind(int code) { return numbered(code & 255); }
     static Kind ofQueue(int code) { return kind(code).group == Group.QUEUE ? kind(code) : numbered(code >>> 8 & 255); }
     static Kind ofMap(int code) { return kind(code).ofKeys() ? kind(code) : numbered(code >>> 16); }
     /** Whether what stands for the call is given the call, too: so Within is. */
     public static boolean isWithin(int code) {
-        for (Kind one : new Kind[] {kind(code), ofMap(code)}) if (one == KEY_IF_ABSENT || one == KEY_WITHIN) return true;
+        for (Kind one : new Kind[] {kind(code), ofMap(code)})
+            if (one == KEY_IF_ABSENT || one == KEY_IF_PRESENT || one == KEY_WITHIN) return true;
         return false;
     }
+    /** Whether a function of the call is given the call, too: so Updates has it. */
+    public static boolean isUpdate(int code) { return kind(code) == UPDATE; }
 
     /** Whether it is an access, which isn't logged within an initializer of a class. */
     boolean isAccess() { return group != Group.NONE && group != Group.ORDER; }

@@ -7,7 +7,11 @@ import aerodrome.names.ClassNames;
 import aerodrome.names.Numbers;
 import aerodrome.names.Text;
 import java.util.Collection;
+import java.util.Collections;
+import java.util.Comparator;
 import java.util.Map;
+import java.util.SortedMap;
+import java.util.SortedSet;
 import java.util.UUID;
 import java.util.concurrent.ConcurrentMap;
 import java.util.concurrent.ConcurrentSkipListSet;
@@ -27,17 +31,26 @@ final class Maps {
     static boolean hasKeys(Object map) { return map instanceof ConcurrentMap || map instanceof ConcurrentSkipListSet; }
     /** Returns the kind of a call by a view, which may be one of a map's values or entries: then the call may come upon any key. */
     static Kind kind(Kind ofKey, Object receiver) {
-        if (ofKey == Kind.WHOLE_READ || ofKey == Kind.WHOLE_WRITE || Views.isOfKeys(receiver)) return ofKey;
-        return ofKey == Kind.KEY_READ ? Kind.WHOLE_READ : Kind.WHOLE_WRITE;
+        boolean isOfWhole = ofKey == Kind.WHOLE_READ || ofKey == Kind.WHOLE_WRITE || ofKey == Kind.WHOLE_TAKE;
+        if (isOfWhole || Views.isOfKeys(receiver)) return ofKey;
+        return ofKey == Kind.KEY_READ ? Kind.WHOLE_READ : ofKey == Kind.KEY_IF_PRESENT ? Kind.WHOLE_TAKE : Kind.WHOLE_WRITE;
     }
-    static boolean hasKey(Object map, Object key) {
-        return map instanceof Map ? ((Map<?, ?>) map).get(key) != null : ((Collection<?>) map).contains(key);
+    /** @param expected the value that the key must have; null: any */
+    static boolean hasKey(Object map, Object key, Object expected) {
+        if (!(map instanceof Map)) return ((Collection<?>) map).contains(key);
+        Object value = ((Map<?, ?>) map).get(key);
+        return value != null && (expected == null || expected.equals(value));
+    }
+    /** Returns whether a set, a map or a view of one has the argument; without one, whether it has anything. */
+    static boolean hasSome(Object receiver, Object argument) {
+        if (argument != null && receiver instanceof Collection) return ((Collection<?>) receiver).contains(argument);
+        return receiver instanceof Map ? !((Map<?, ?>) receiver).isEmpty() : !((Collection<?>) receiver).isEmpty();
     }
 
     /** Writes the lines of a call, without one of another thread between. */
     static void write(LoggedThread me, Kind kind, Object map, Object key, int site) {
         boolean isOfKey = kind == Kind.KEY_READ || kind == Kind.KEY_WRITE;
-        Keys telling = isOfKey ? Keys.of(key) : Keys.NOT;
+        Keys telling = isOfKey ? telling(me, map, key) : Keys.NOT;
         long number = isOfKey ? number(me, telling, key) : -1, of = Numbers.of(map);
         Parts parts = Parts.of(map);
         try {
@@ -54,6 +67,21 @@ final class Maps {
             if (kind == Kind.KEY_WRITE) parts.add(me, map, site);
         } finally {
             Log.unlock();
+        }
+    }
+    /** A map in the order of a comparator takes keys for the same that aren't equal. */
+    private static Keys telling(LoggedThread me, Object map, Object key) {
+        Keys telling = Keys.of(key);
+        boolean isSorted = map instanceof SortedMap || map instanceof SortedSet;
+        return !isSorted || telling == Keys.NOT || Keys.isNatural(key) && isNatural(me, map) ? telling : Keys.NOT;
+    }
+    private static boolean isNatural(LoggedThread me, Object map) {
+        me.isQuiet = true;
+        try {
+            Object by = map instanceof SortedMap ? ((SortedMap<?, ?>) map).comparator() : ((SortedSet<?>) map).comparator();
+            return by == null || by == Comparator.naturalOrder() || by == Collections.reverseOrder();
+        } finally {
+            me.isQuiet = false;
         }
     }
     private static long number(LoggedThread me, Keys telling, Object key) {

@@ -32,6 +32,9 @@ public final class Views {
     /** Those whose calls take values or entries. */
     private static final String WITHOUT_KEYS = "java\\.util\\..*\\$(1Seq)?(Values|EntrySet)(View)?";
 
+    /** Those whose calls change nothing. */
+    private static final String UNMODIFIABLE = "java\\.util\\.(Collections\\$(Unmodifiable|Empty|Singleton|Copies).*|ImmutableCollections\\$.*)";
+
     /** In each of these classes, the field of the map that it is made of. */
     private static VarHandle ofHashSet, ofTreeSet, ofSkipListSet, ofProperties;
     private static VarHandle inOrderOfAccess;
@@ -59,11 +62,13 @@ public final class Views {
         final boolean isOpaque;
         /** Whether only some objects of the class are views: those that are made of a view of a map. */
         final boolean isSorted;
+        final boolean isUnmodifiable;
 
         Behind(Class<?> of, VarHandle field) {
             isSorted = of == TreeSet.class || of == ConcurrentSkipListSet.class;
             this.field = !isSorted ? field : of == TreeSet.class ? ofTreeSet : ofSkipListSet;
             isOfKeys = !of.getName().matches(WITHOUT_KEYS);
+            isUnmodifiable = of.getName().matches(UNMODIFIABLE);
             isOpaque = !Numbered.class.isAssignableFrom(of) || extendsWhole(of);
         }
         /** Returns whether the first class of java.util that the class extends has contents of its own. */
@@ -110,7 +115,23 @@ public final class Views {
     /** Returns whether it is a map that a look at a key changes, as the caches are that remove the key that wasn't used for longest. */
     static boolean isInOrderOfAccess(Object map) { return map instanceof LinkedHashMap && (boolean) inOrderOfAccess.get(map); }
 
+    /** Returns whether calls of the view or the iterator, or of a view behind it, change nothing. */
+    static boolean isUnmodifiable(Object receiver) {
+        for (Object one = receiver; one != null; ) {
+            Behind behind = BEHIND.get(one.getClass());
+            if (behind.isUnmodifiable) return true;
+            one = behind.of(one);
+        }
+        return false;
+    }
+
     static boolean isOpaque(Object collection) { return BEHIND.get(collection.getClass()).isOpaque; }
+    /** Returns whether a call of the collection, or of the view of it that the receiver is, stands for what it does to the contents. */
+    static boolean mayAccess(Object receiver, Object collection, boolean isChange) {
+        Behind behind = BEHIND.get(collection.getClass());
+        if (!isChange || !behind.isOpaque) return behind.isOpaque;
+        return !behind.isUnmodifiable && (receiver == collection || !isUnmodifiable(receiver));
+    }
 
     /** Returns the set or the properties that are made of this map, if they are tied to it; otherwise the map itself. */
     static Object owner(Object map) {

@@ -17,7 +17,7 @@ public final class Within {
         private final BiFunction<Object, Object, Object> function;
         /** That of merge or putIfAbsent. */
         private final Object value;
-        Object before;
+        private Object before;
 
         Step(Call call, BiFunction<Object, Object, Object> function, Object value) {
             this.call = call;
@@ -30,8 +30,25 @@ public final class Within {
             Object after = before == null && value != null ? value
                     : function == null ? before
                     : value != null ? function.apply(before, value) : function.apply(key, before);
-            call.within(before == null ? after != null : function != null);
+            call.within(after != before);
             return after;
+        }
+    }
+    /** Gives the next value in the place of that which is expected, and otherwise the same value. */
+    private static final class Exchange implements BiFunction<Object, Object, Object> {
+        /** Null: any. */
+        private final Object expected;
+        private final Object next;
+        private boolean isDone;
+
+        Exchange(Object expected, Object next) {
+            this.expected = expected;
+            this.next = next;
+        }
+
+        @Override public Object apply(Object key, Object before) {
+            isDone = expected == null || expected == before || expected.equals(before);
+            return isDone ? next : before;
         }
     }
     private static final class Maker implements Function<Object, Object> {
@@ -71,5 +88,29 @@ public final class Within {
         Step step = new Step(call, null, value);
         map.compute(key, step);
         return step.before;
+    }
+
+    public static Object remove(Map<Object, Object> map, Object key, Call call) {
+        return isWithin(call) ? exchange(map, key, null, call) : map.remove(key);
+    }
+    public static Object replace(Map<Object, Object> map, Object key, Object value, Call call) {
+        return isWithin(call) && value != null ? exchange(map, key, value, call) : map.replace(key, value);
+    }
+    private static Object exchange(Map<Object, Object> map, Object key, Object next, Call call) {
+        Step step = new Step(call, new Exchange(null, next), null);
+        map.computeIfPresent(key, step);
+        return step.before;
+    }
+    public static boolean remove(Map<Object, Object> map, Object key, Object value, Call call) {
+        if (!isWithin(call) || value == null) return map.remove(key, value);
+        return isExchanged(map, key, new Exchange(value, null), call);
+    }
+    public static boolean replace(Map<Object, Object> map, Object key, Object value, Object next, Call call) {
+        if (!isWithin(call) || value == null || next == null) return map.replace(key, value, next);
+        return isExchanged(map, key, new Exchange(value, next), call);
+    }
+    private static boolean isExchanged(Map<Object, Object> map, Object key, Exchange exchange, Call call) {
+        map.computeIfPresent(key, new Step(call, exchange, null));
+        return exchange.isDone;
     }
 }

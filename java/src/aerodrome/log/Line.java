@@ -15,6 +15,10 @@ public final class Line {
     int test;
     private final int prefix;
 
+    Line(int thread, int test) {
+        this(thread);
+        this.test = test;
+    }
     Line(int thread) {
         byte[] text = ("T" + thread + "|").getBytes(StandardCharsets.US_ASCII);
         System.arraycopy(text, 0, bytes, 0, text.length);

@@ -23,6 +23,8 @@ public final class LoggedThread {
     public int initializing;
     /** Whether it is in code of the program that a hook calls. */
     public boolean isQuiet;
+    /** The call by which it is about to arrive at a barrier, or null. */
+    public Object arriving;
     /** Whether it is about to complete a future, by a line that is made already. */
     public boolean isCompleting;
     /** How often it held the monitor that Thread.join has given back. */
@@ -46,6 +48,9 @@ public final class LoggedThread {
     }
 
     public static LoggedThread current() { return MINE.get(); }
+
+    /** Returns a line of this thread for another one, which writes it while this thread waits in a call. */
+    public Line lineForAnother() { return new Line(number, line.test); }
 
     /** The thread that calls, or null where what it does isn't logged. */
     public static LoggedThread logging() {

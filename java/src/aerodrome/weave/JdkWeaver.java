@@ -142,10 +142,10 @@ public final class JdkWeaver implements ClassFileTransformer {
             call(where);
         }
 
-        /** The state of what may be complete. */
+        /** The state of what may be complete, or of a barrier. */
         @Override
         public void visitFieldInsn(int opcode, String owner, String name, String descriptor) {
-            boolean isLook = opcode == GETFIELD && name.equals("result");
+            boolean isLook = opcode == GETFIELD && (name.equals("result") || name.equals("generation"));
             if (isLook) callFound(JdkHook.Where.LOOK);
             for (JdkHook one : hooks) if (isLook && one.where == JdkHook.Where.FOUND) mv.visitInsn(DUP);
             super.visitFieldInsn(opcode, owner, name, descriptor);

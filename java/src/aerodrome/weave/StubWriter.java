@@ -34,7 +34,11 @@ final class StubWriter {
             "computeIfAbsent(" + OBJECT + "Ljava/util/function/Function;)" + OBJECT,
             "computeIfPresent(" + OBJECT + "Ljava/util/function/BiFunction;)" + OBJECT,
             "compute(" + OBJECT + "Ljava/util/function/BiFunction;)" + OBJECT,
-            "merge(" + OBJECT + OBJECT + "Ljava/util/function/BiFunction;)" + OBJECT);
+            "merge(" + OBJECT + OBJECT + "Ljava/util/function/BiFunction;)" + OBJECT,
+            "remove(" + OBJECT + ")" + OBJECT, "replace(" + OBJECT + OBJECT + ")" + OBJECT,
+            "remove(" + OBJECT + OBJECT + ")Z", "replace(" + OBJECT + OBJECT + OBJECT + ")Z");
+    /** Those whose second argument is a value that they expect. */
+    private static final Set<String> EXPECTING = Set.of("remove(" + OBJECT + OBJECT + ")Z", "replace(" + OBJECT + OBJECT + OBJECT + ")Z");
 
     /** Methods of collections that don't take the monitor of those that have one. */
     private static final Set<String> WITHOUT_MONITOR = Set.of("iterator", "descendingIterator", "listIterator", "stream",
@@ -166,10 +170,12 @@ final class StubWriter {
         boolean hasObject = arguments.length > 0 && arguments[0].getSort() >= Type.ARRAY;
         if (hasObject) code.visitVarInsn(ALOAD, stub.firstArgument());
         else code.visitInsn(ACONST_NULL);
+        boolean isExpecting = Kind.isWithin(stub.code) && EXPECTING.contains(stub.call.name + stub.call.descriptor);
         if (stub.form >= 0) handleIndex();
+        else if (isExpecting) code.visitVarInsn(ALOAD, stub.firstArgument() + 1);
         else index(hasObject);
         code.visitVarInsn(ILOAD, stub.site());
-        String given = stub.form >= 0 ? HANDLE + OBJECT + "I" : OBJECT + OBJECT + "J";
+        String given = stub.form >= 0 ? HANDLE + OBJECT + "I" : OBJECT + OBJECT + (isExpecting ? OBJECT : "J");
         code.visitMethodInsn(INVOKESTATIC, stub.form >= 0 ? HANDLES : CALLS, "before", "(I" + given + "I)L" + CALL + ";", false);
         code.visitVarInsn(ASTORE, call);
     }
@@ -219,8 +225,15 @@ final class StubWriter {
         int at = stub.firstArgument();
         for (Type one : arguments) {
             code.visitVarInsn(one.getOpcode(ILOAD), at);
+            if (Kind.isUpdate(stub.code) && one.getDescriptor().startsWith("Ljava/util/function/")) tell(one);
             at += one.getSize();
         }
+    }
+    /** Puts a function in the place of that on the stack. */
+    private void tell(Type function) {
+        code.visitVarInsn(ALOAD, call);
+        String given = "(" + function + "L" + CALL + ";)" + function;
+        code.visitMethodInsn(INVOKESTATIC, "aerodrome/hooks/Updates", "telling", given, false);
     }
 
     private void after() {

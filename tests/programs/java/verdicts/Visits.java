@@ -1,6 +1,6 @@
 import java.util.*;
 import java.util.concurrent.*;
-// S: putIfAbsent and computeIfAbsent: one thread makes, both see; it prints how often it is asked for equals and hashCode
+// S: changes of a map that may find nothing to change; it prints how often it is asked for equals and hashCode
 public class Visits {
     static int eq, hc;
     static class K {
@@ -23,6 +23,9 @@ public class Visits {
         m.putIfAbsent(new K(1), "b");
         m.computeIfAbsent(new K(2), k -> "c");
         m.computeIfAbsent(new K(2), k -> "d");
+        m.merge(new K(4), "i", String::concat);
+        System.out.println(m.remove(new K(3)) + m.remove(new K(1)) + m.remove(new K(2), "d") + m.replace(new K(2), "c", "e"));
+        System.out.println(m.replace(new K(2), "f") + m.replace(new K(3), "g") + m.computeIfPresent(new K(2), (k, v) -> v + "h"));
         System.out.println(m.values() + " " + eq + " " + hc);
     }
 }
