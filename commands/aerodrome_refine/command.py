@@ -71,7 +71,8 @@ def main(words: list[bytes]) -> int:
             raise Ended(4, "write failed")
         asked = settle(words)
         labels, traces = labels_of(asked), [Trace(word) for word in asked.traces]
-        options = [b"--stop", *asked.options]
+        # If labels were given, a pass reads on behind its violation, to find those with which no block begins.
+        options = asked.options if [*labels] else [b"--stop", *asked.options]
         passes = Passes(traces, options, asked.passes or len(os.sched_getaffinity(0)), Progress(asked))
         return judge(asked, passes, labels)
     except Ended as end:
