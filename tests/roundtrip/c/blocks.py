@@ -2,6 +2,7 @@
 import string
 from collections import namedtuple
 
+from c.threads import AT_ONCE
 from program import fits
 
 #: A kind of function: its declaration, its definition with $whole (or $body) and the text that calls it, its label, what it needs,
@@ -117,7 +118,8 @@ def define_common(program):
     texts = []
     for name, bodies in sorted(program.common_bodies.items()):
         kind = program.common[name]
-        cases = "\n".join("case %d: {\n    %s\n    return 0; }" % one for one in bodies)
+        # (clang makes a loop of a function that calls itself at its very end)
+        cases = "\n".join("case %d: {\n    %s\n    %s\n    return 0; }" % (*one, AT_ONCE) for one in bodies)
         words = {"f": name, "whole": "{\nswitch (at) {\n%s\n}\nreturn 0;\n}" % cases}
         program.prototypes.append(string.Template(kind.declared).substitute(words))
         texts.append(string.Template(kind.defined).substitute(words))

@@ -307,7 +307,9 @@ class CBody(Body):
         call = blocks.define(self.program, begin, kind, self.lines)
         self.lines, self.scopes, self.in_library = before, self.outer_scopes.pop(), False
         self.lines.append("stage_turn(%d);" % begin.number)
-        if mode == "tail" and not last and call.startswith("("):
+        # (clang makes a loop of a function that calls itself at its very end)
+        is_own = kind in blocks.COMMON and self.stack and self.stack[-1][0].target == begin.target and "clang" in self.program.traits
+        if mode == "tail" and not last and call.startswith("(") and not is_own:
             self.lines.append("return %s;" % call)
         elif last and mode in ("throw", "longjmp"):
             self.lines.append("try { %s; } catch (int) {}" % call if mode == "throw" else "if (!setjmp(jumps[%d])) { %s; }" % (numbers[-1], call))
