@@ -1,5 +1,5 @@
-/* Semaphores. Each post has a number K, and writes sem.X.K before anybody can take its permit. A wait reads, once it is through, the posts without which
- * it would have had to wait, as far as the log can tell:
+/* Semaphores. Each post has a number K, and writes sem.X.K before anybody can take its permit. A wait reads, once it is through, the
+ * posts without which it would have had to wait, as far as the log can tell:
  *
  *   all posts, and all waits, since the semaphore had no permit are of one thread each   the K-th such wait reads the K-th post
  *   all waits since then are of this thread, and it takes the last permit                it reads all posts since then
