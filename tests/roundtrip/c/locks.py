@@ -128,7 +128,7 @@ CONDITIONS = [
               "$c.notify_one();", "std-mutex", 1),
     Condition("condition_variable.wait with a predicate", "static std::condition_variable $c;",
               UNIQUE % ("std::mutex", "$c.wait(u, aside_flag{$flag});"), "$c.notify_all();", "std-mutex", 1),
-    Condition("condition_variable_any.wait", "static std::condition_variable_any $c;", LOOP % "$c.wait($m)", "$c.notify_all();", "std", 1),
+    Condition("condition_variable_any.wait", "static std::condition_variable_any $c;", LOOP % "$c.wait($m)", "$c.notify_all();", "std -splits-waits", 1),
 ]
 
 #: Other things: what declares and starts them, and the texts of their operations. $k is the thing, $count a number of threads,
@@ -232,7 +232,9 @@ def fail(program, step):
 def condition(program, meeting):
     """Returns the name of a condition and the texts of who waits and of who wakes, or None if none is used."""
     it = program.locks[meeting.target]
-    possible = [one for one in CONDITIONS if fits(one.needs, it.traits)]
+    # (condition_variable_any gives the mutex back before it waits, so another thread may have the mutex before a block is split)
+    traits = it.traits | ({"splits-waits"} if "waits" in program.splits else set())
+    possible = [one for one in CONDITIONS if fits(one.needs, traits)]
     if not possible or program.chance(0.3):
         return None
     one = program.random.choice(possible)
