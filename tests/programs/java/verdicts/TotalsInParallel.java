@@ -27,6 +27,6 @@ public class TotalsInParallel {
             table.set(999, 30);
             Turns.say("changed");
         });
-        System.out.println(table.total());
+        System.out.println(table.version);
     }
 }
