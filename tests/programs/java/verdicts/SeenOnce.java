@@ -2,7 +2,7 @@ import java.util.Set;
 import java.util.concurrent.ConcurrentHashMap;
 import java.util.concurrent.atomic.AtomicLong;
 
-// S: each message is counted by the thread that adds it to a set; an add that finds it there already only reads
+// V: a message is added before and counted after another thread, which found it in the set, counts a second one; blames SeenOnce.receive
 public class SeenOnce {
     private static final Set<String> seen = ConcurrentHashMap.newKeySet();
     private static final AtomicLong bytes = new AtomicLong();
