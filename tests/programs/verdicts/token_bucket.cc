@@ -8,6 +8,7 @@
 #include <exception>
 #include <mutex>
 #include <thread>
+#include <utility>
 
 class Tokens {
 public:
@@ -24,8 +25,10 @@ public:
         void unhandled_exception() { std::terminate(); }
     };
     explicit Tokens(std::coroutine_handle<promise_type> handle) : handle_(handle) {}
-    Tokens(const Tokens &) = delete;
-    ~Tokens() { handle_.destroy(); }
+    Tokens(Tokens &&other) noexcept : handle_(std::exchange(other.handle_, nullptr)) {}
+    ~Tokens() {
+        if (handle_) handle_.destroy();
+    }
     int next() {
         handle_.resume();
         return handle_.promise().granted;
