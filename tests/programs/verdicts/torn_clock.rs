@@ -1,5 +1,5 @@
 // Verdict: violation torn_clock::Clock::now
-// Blocks: *Clock::*
+// Blocks: *torn_clock::*,-torn_clock::main*
 // A timer's clock has its seconds and its parts of a second in two atomics. Another thread moves it between the two loads, so the time
 // that is read never was. The threads are scoped, and step by a Barrier.
 use std::sync::atomic::{AtomicU32, AtomicU64, Ordering};
