@@ -154,6 +154,7 @@ void aero_access(const struct here *here, struct goroutine *t, const struct acce
     const struct code *place = outside(t, code);
     if (((code->is | place->is) & IS_SYNC) || ((code->is & IS_RACE) && !it->bytes) || is_local(t, it->at)) return;
     if ((aero_is_quiet(t) && !is_of_channel(it)) || aero_is_counter(it->at)) return;
+    if (*it->operation == 'w' && aero_only_reads(place)) return;
     if (aero_settings.grain) grains(t, it->operation, it->at, it->bytes ? it->bytes : 1, place);
     else if (it->bytes) range(t, it->operation, it->at, it->bytes, place);
     else single(t, it->operation, it->at, place);

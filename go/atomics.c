@@ -63,5 +63,6 @@ void aero_atomic(struct goroutine *t, const struct atomic *it) {
         if (!(is_second ? second_word_counts(t, it) : first_word_counts(t, it))) return;
         if (!is_second) event.at += 8;
     }
+    if (it->writes && aero_only_reads(it->place)) return;
     aero_atomic_access(t, &event);
 }

@@ -170,6 +170,14 @@ static const struct known {
     {"reflect.ArrayOf", PROGRAM, IS_QUIET},
     {"reflect.ChanOf", PROGRAM, IS_QUIET},
     {"reflect.StructOf", PROGRAM, IS_QUIET},
+    {"math/big.divisors", PROGRAM, IS_QUIET},
+    {"net.readHosts", PROGRAM, IS_QUIET},
+    /* What makes what is needed first, or adds to what a context has to end and takes from it. What they read is written elsewhere,
+     * where a context ends. */
+    {"context.(*cancelCtx).Done", PROGRAM, ONLY_READS},
+    {"context.propagateCancel", PROGRAM, ONLY_READS},
+    {"context.removeChild", PROGRAM, ONLY_READS},
+    {"crypto/rand.(*reader).Read", PROGRAM, ONLY_READS},
     {"", PROGRAM, 0},
 };
 

@@ -59,7 +59,7 @@ enum {
     IS_BLOCK = 1, IS_RUNTIME = 2, IS_LOW = 4, IS_HOOK = 8, IS_SYNC = 16, IS_RACE = 32, IS_MAP = 64, IS_ENTRY = 128,
     IS_ENTRY_LOAD = 256, IS_COND_WAIT = 512, SENDS = 1024, RUNS_TIMERS = 2048, RETURNS_BY_DEFERRED = 4096, PANICS = 8192,
     IS_LIBRARY = 16384, IS_QUIET = 32768, IS_UNKNOWN = 65536, ENDS_PROGRAM = 131072,
-    LOADS_OR_STORES = 262144, DELETES = 524288, IS_WRAPPER = 1048576, COMPARES = 2097152, LOADS = 4194304
+    LOADS_OR_STORES = 262144, DELETES = 524288, IS_WRAPPER = 1048576, COMPARES = 2097152, LOADS = 4194304, ONLY_READS = 8388608
 };
 /* A return address: the function that it is in, and the function whose source it is of, which may be inlined there. */
 struct code {
@@ -286,6 +286,8 @@ struct suffix {
 };
 void aero_access(const struct here *here, struct goroutine *t, const struct access *it);
 bool aero_is_quiet(const struct goroutine *t);
+/* Whether a write there has no event. */
+static inline bool aero_only_reads(const struct code *place) { return (place->is & IS_LIBRARY) && (place->is & ONLY_READS); }
 void aero_event(struct goroutine *t, const char *operation, word at, const struct code *place);
 void aero_suffixed(struct goroutine *t, const char *operation, word at, const struct suffix *suffix);
 

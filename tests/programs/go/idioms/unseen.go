@@ -2,12 +2,15 @@
 package main
 
 import (
+	"context"
+	"crypto/rand"
 	"encoding/gob"
 	"encoding/json"
 	"encoding/xml"
 	"hash/crc32"
 	"html"
 	"io"
+	"math/big"
 	"net"
 	"reflect"
 	"strings"
@@ -124,7 +127,25 @@ func decodeJSON(n int) {
 func encodeXML(n int) { xml.Marshal(valueOf(n)) }
 func encodeGob(n int) { gob.NewEncoder(io.Discard).Encode(valueOf(n)) }
 
-// But what a Once of the library closes is found closed.
+// The same of what it makes without a Once, and of what a context keeps of those that are derived from it.
+var parent, endParent = context.WithCancel(context.Background())
+var huge = new(big.Int).Lsh(big.NewInt(1), 1200)
+var resolver = net.Resolver{PreferGo: true, Dial: func(context.Context, string, string) (net.Conn, error) { return nil, io.EOF }}
+
+func askForChannel()              { parent.Done() }
+func readRandom()                 { rand.Read(make([]byte, 8)) }
+func printHuge()                  { _ = huge.String() }
+func findHost()                   { resolver.LookupHost(context.Background(), "localhost") }
+func derive()                     { context.WithTimeout(parent, time.Hour) }
+func deriveAndEnd()               { _, end := context.WithTimeout(parent, time.Hour); end() }
+func deriveAround()               { _, end := context.WithCancel(parent); mark(0); after(1); end() }
+func deriveBetween()              { after(0); deriveAndEnd(); mark(1) }
+func twiceInTurn(f func()) func() { return follows(f, f) }
+
+// But who derives from a context finds out whether that has ended, and who asks for the channel of one that has finds it closed.
+func awaitParent() { <-parent.Done() }
+
+// And what a Once of the library closes is found closed.
 var near, far = net.Pipe()
 
 func closeNear() { near.Close() }
@@ -161,6 +182,15 @@ func init() {
 		"library-json":       inTurns(decodeJSON),
 		"library-xml":        inTurns(encodeXML),
 		"library-gob":        inTurns(encodeGob),
+		"library-channel":    twiceInTurn(askForChannel),
+		"library-random":     twiceInTurn(readRandom),
+		"library-huge":       twiceInTurn(printHuge),
+		"library-hosts":      twiceInTurn(findHost),
+		"library-derives":    twiceInTurn(deriveAndEnd),
+		"library-derived":    func() { both(deriveAround, deriveBetween) },
+		"derive-end":         follows(derive, func() { endParent() }),
+		"end-derive":         follows(func() { endParent() }, derive),
+		"end-await":          follows(func() { endParent() }, awaitParent),
 		"library-closes":     follows(closeNear, readFar),
 		"library-types":      encodes,
 		"promoted-starts":    promotedStarts,
