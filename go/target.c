@@ -148,11 +148,13 @@ static const char *end_file(const char *cause) {
     return NULL;
 }
 
-/* Opens the file. One that another process writes its log to stays as it is; so it is emptied only once it is locked. */
+/* Opens the file. One that another process writes its log to stays as it is; so it is emptied only once it is locked. A named pipe waits
+ * for its reader. */
 static int open_file(void) {
     struct stat is;
-    int number = open(path, O_RDWR | O_CREAT | O_CLOEXEC, 0666);
-    if (number < 0 && (errno == EACCES || errno == ENXIO)) number = open(path, O_WRONLY | O_CLOEXEC);
+    bool is_pipe = !stat(path, &is) && S_ISFIFO(is.st_mode);
+    int number = is_pipe ? -1 : open(path, O_RDWR | O_CREAT | O_CLOEXEC, 0666);
+    if (is_pipe || (number < 0 && (errno == EACCES || errno == ENXIO))) number = open(path, O_WRONLY | O_CLOEXEC);
     if (number < 0 || fstat(number, &is) || !S_ISREG(is.st_mode)) return number;
     bool is_written = flock(number, LOCK_EX | LOCK_NB) && errno == EWOULDBLOCK;
     if (!is_written && !ftruncate(number, 0)) return number;
