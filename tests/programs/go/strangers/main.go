@@ -1,4 +1,4 @@
-// Thirty small programs, written from the pages alone. Each word is a program of its own, and the file verdicts has what the checker is to
+// Sixty small programs, written from the pages alone. Each word is a program of its own, and the file verdicts has what the checker is to
 // say of its log: this was written before a program ran.
 package main
 
@@ -40,6 +40,12 @@ var words = map[string]func(){
 	"statistics": runStatistics, "machine": runMachine, "limiter": runLimiter, "election": runElection, "client": runClient,
 	"breaker": runBreaker, "lazy": runLazy, "numbers": runNumbers, "progress": runProgress, "matrix": runMatrix,
 	"bus": runBus, "subject": runSubject, "room": runRoom, "ring": runRing, "reminder": runReminder,
+	"tickets": runTickets, "vault": runVault, "striped": runStriped, "chain": runChain, "ledger": runLedger,
+	"loan": runLoan, "document": runDocument, "votes": runVotes, "tags": runTags, "supervised": runSupervised,
+	"report": runReport, "plates": runPlates, "clockwork": runClockwork, "spin": runSpin, "mirror": runMirror,
+	"rules": runRules, "lamp": runLamp, "ids": runIds, "nicknames": runNicknames, "leases": runLeases,
+	"desk": runDesk, "funnel": runFunnel, "debounce": runDebounce, "download": runDownload, "tasks": runTasks,
+	"agenda": runAgenda, "rounds": runRounds, "gate": runGate, "radio": runRadio, "turnstile": runTurnstile,
 }
 
 func main() {
