@@ -26,7 +26,8 @@
 _Static_assert(sizeof(uintptr_t) == 8, "addresses have 64 bits");
 #define LIKELY(condition) __builtin_expect(!!(condition), 1)
 #define UNLIKELY(condition) __builtin_expect(!!(condition), 0)
-/* Where the caller of the function goes on, and where its stack ends at the call. By HERE, what others have left without a hook ends. */
+/* Where the caller of the function goes on, and where its stack ends at the call. HERE also ends the blocks of functions that were left
+ * without a hook, as by __builtin_longjmp. */
 #define CALL ((uintptr_t)__builtin_return_address(0))
 #define FRAME ((uintptr_t)__builtin_dwarf_cfa())
 #define HERE (aero_come_from(FRAME), CALL)

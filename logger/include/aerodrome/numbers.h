@@ -4,78 +4,40 @@
 #define AERODROME_NUMBERS
 #include <aerodrome/function.h>
 
-extern __inline __attribute__((__gnu_inline__, __always_inline__, __artificial__)) unsigned char aerodrome_addcarry_u32(unsigned char carry, unsigned one, unsigned other, unsigned *to) {
-    unsigned result;
-    carry = _addcarry_u32(carry, one, other, &result);
-    *to = result;
-    return carry;
-}
-AERODROME_FUNCTION("adx") unsigned char aerodrome_addcarryx_u32(unsigned char carry, unsigned one, unsigned other, unsigned *to) {
-    unsigned result;
-    carry = _addcarryx_u32(carry, one, other, &result);
-    *to = result;
-    return carry;
-}
-extern __inline __attribute__((__gnu_inline__, __always_inline__, __artificial__)) unsigned char aerodrome_subborrow_u32(unsigned char carry, unsigned one, unsigned other, unsigned *to) {
-    unsigned result;
-    carry = _subborrow_u32(carry, one, other, &result);
-    *to = result;
-    return carry;
-}
-extern __inline __attribute__((__gnu_inline__, __always_inline__, __artificial__)) unsigned char aerodrome_addcarry_u64(unsigned char carry, unsigned long long one, unsigned long long other, unsigned long long *to) {
-    unsigned long long result;
-    carry = _addcarry_u64(carry, one, other, &result);
-    *to = result;
-    return carry;
-}
-AERODROME_FUNCTION("adx") unsigned char aerodrome_addcarryx_u64(unsigned char carry, unsigned long long one, unsigned long long other, unsigned long long *to) {
-    unsigned long long result;
-    carry = _addcarryx_u64(carry, one, other, &result);
-    *to = result;
-    return carry;
-}
-extern __inline __attribute__((__gnu_inline__, __always_inline__, __artificial__)) unsigned char aerodrome_subborrow_u64(unsigned char carry, unsigned long long one, unsigned long long other, unsigned long long *to) {
-    unsigned long long result;
-    carry = _subborrow_u64(carry, one, other, &result);
-    *to = result;
-    return carry;
-}
-AERODROME_FUNCTION("rdrnd") int aerodrome_rdrand16_step(unsigned short *to) {
-    unsigned short result;
-    int is_there = _rdrand16_step(&result);
-    *to = result;
-    return is_there;
-}
-AERODROME_FUNCTION("rdrnd") int aerodrome_rdrand32_step(unsigned *to) {
-    unsigned result;
-    int is_there = _rdrand32_step(&result);
-    *to = result;
-    return is_there;
-}
-AERODROME_FUNCTION("rdrnd") int aerodrome_rdrand64_step(unsigned long long *to) {
-    unsigned long long result;
-    int is_there = _rdrand64_step(&result);
-    *to = result;
-    return is_there;
-}
-AERODROME_FUNCTION("rdseed") int aerodrome_rdseed16_step(unsigned short *to) {
-    unsigned short result;
-    int is_there = _rdseed16_step(&result);
-    *to = result;
-    return is_there;
-}
-AERODROME_FUNCTION("rdseed") int aerodrome_rdseed32_step(unsigned *to) {
-    unsigned result;
-    int is_there = _rdseed32_step(&result);
-    *to = result;
-    return is_there;
-}
-AERODROME_FUNCTION("rdseed") int aerodrome_rdseed64_step(unsigned long long *to) {
-    unsigned long long result;
-    int is_there = _rdseed64_step(&result);
-    *to = result;
-    return is_there;
-}
+/* Writes the sum or the difference to the place, and returns the carry. */
+#define AERODROME_CARRY(function, name, type) \
+    function unsigned char aerodrome_##name(unsigned char carry, type one, type other, type *to) { \
+        type result; \
+        carry = _##name(carry, one, other, &result); \
+        *to = result; \
+        return carry; \
+    }
+/* (each processor has these: they ask for none, which a caller might not have) */
+#define AERODROME_PLAIN extern __inline __attribute__((__gnu_inline__, __always_inline__, __artificial__))
+AERODROME_CARRY(AERODROME_PLAIN, addcarry_u32, unsigned)
+AERODROME_CARRY(AERODROME_PLAIN, subborrow_u32, unsigned)
+AERODROME_CARRY(AERODROME_PLAIN, addcarry_u64, unsigned long long)
+AERODROME_CARRY(AERODROME_PLAIN, subborrow_u64, unsigned long long)
+AERODROME_CARRY(AERODROME_FUNCTION("adx"), addcarryx_u32, unsigned)
+AERODROME_CARRY(AERODROME_FUNCTION("adx"), addcarryx_u64, unsigned long long)
+
+/* Writes a random number to the place, and returns whether the processor had one. */
+#define AERODROME_RANDOM(target, name, type) \
+    AERODROME_FUNCTION(target) int aerodrome_##name(type *to) { \
+        type result; \
+        int is_there = _##name(&result); \
+        *to = result; \
+        return is_there; \
+    }
+AERODROME_RANDOM("rdrnd", rdrand16_step, unsigned short)
+AERODROME_RANDOM("rdrnd", rdrand32_step, unsigned)
+AERODROME_RANDOM("rdrnd", rdrand64_step, unsigned long long)
+AERODROME_RANDOM("rdseed", rdseed16_step, unsigned short)
+AERODROME_RANDOM("rdseed", rdseed32_step, unsigned)
+AERODROME_RANDOM("rdseed", rdseed64_step, unsigned long long)
+#undef AERODROME_CARRY
+#undef AERODROME_PLAIN
+#undef AERODROME_RANDOM
 
 #undef _addcarry_u32
 #define _addcarry_u32 aerodrome_addcarry_u32

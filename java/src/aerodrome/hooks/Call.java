@@ -23,7 +23,7 @@ import java.util.function.BooleanSupplier;
 public final class Call {
     private final LoggedThread me;
     private final Object receiver, argument;
-    /** The value that a call of a map expects under its key; null: any. */
+    /** The value that the map must have under the key for the call to change it, as in `replace(key, old, next)`; null: any value. */
     private final Object expected;
     /** The collection or map behind the receiver, or that of an iterator; the receiver itself, if it is neither. */
     private Object of;
@@ -36,10 +36,10 @@ public final class Call {
     private Queues.Before queue;
     /** In which it arrived at a phaser. */
     private int phase;
-    /** For which it arrived at a barrier. */
+    /** The meeting of the barrier at which this call arrived; null: none. */
     private Meetings meeting;
     private boolean wasWithin;
-    /** Whether it is a read as there was nothing to change, which another thread may have brought since. */
+    /** Whether the call found nothing to change before it ran. It is then logged as a read, though another thread may have changed that. */
     private boolean mayChange;
 
     /** @param index of the element that is accessed, or an offset; below 0: none */
@@ -111,7 +111,7 @@ public final class Call {
         }
     }
 
-    /** A stamp that stands for no lock may get one. One that isn't valid is refused. */
+    /** Logs the access to the lock before the call if the stamp is a valid one of a lock, and after it if the stamp is optimistic. */
     private void beforeStamped() {
         boolean isWriter = StampedLock.isWriteLockStamp(index), isReader = StampedLock.isReadLockStamp(index);
         if (!isWriter && !isReader) kind = Kind.READ_IF_TRUE;
@@ -142,14 +142,14 @@ public final class Call {
         }
     }
 
-    /** A set, a map or a view of one that hasn't what is to be taken out of it isn't changed. */
+    /** Logs a read, and no write, if the set, the map or the view doesn't have anything that the call would remove. */
     private void beforeTake() {
         mayChange = ask(() -> !Maps.hasSome(receiver, argument));
         kind = mayChange ? Kind.WHOLE_READ : Kind.WHOLE_WRITE;
         if (!mayChange) Maps.write(me, kind, of, argument, site);
     }
 
-    /** Those that are copied when they are changed take no lock for a call that changes nothing. */
+    /** Logs a call of a copy-on-write collection. If the call changes nothing, it takes no lock and is a read. */
     private void beforeCopying() {
         boolean isSet = of instanceof CopyOnWriteArraySet, isCopied = isSet || of instanceof CopyOnWriteArrayList;
         boolean removes = kind == Kind.COLLECTION_REMOVE && index < 0, adds = isSet || kind == Kind.COLLECTION_ADD_NEW;
@@ -164,12 +164,12 @@ public final class Call {
         wasWithin = true;
         if (Log.on) Maps.write(me, isChanged ? Kind.KEY_WRITE : Kind.KEY_READ, of, argument, site);
     }
-    /** The function of an update has given the next value, for the first time. */
+    /** Logs the write of an update once its function has returned the next value, and not again if the function is called again. */
     void updates() {
         if (!wasWithin && Log.on) Log.write(variable(Events.WRITE));
         wasWithin = true;
     }
-    /** The barrier has said for which meeting it arrives there. */
+    /** Notes the meeting at which this call arrives, once the barrier has read its generation. */
     void arrives(Object barrier, Meetings next) {
         if (barrier != receiver) return;
         meeting = next;
@@ -296,7 +296,7 @@ public final class Call {
         if (kind == Kind.AWAIT) Locks.takeBack(me, receiver, times, site);
     }
 
-    /** Of a call that is logged behind it. It has looked before it failed, unless it was given no key to look for. */
+    /** Logs the read of a call that threw, if reads of its kind are logged after the call. A call without a key has read nothing. */
     private void failedRead(Throwable thrown) {
         if (thrown instanceof NullPointerException && argument == null && kind.ofKeys()) return;
         switch (kind) {

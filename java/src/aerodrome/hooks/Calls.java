@@ -44,7 +44,7 @@ public final class Calls {
     public static Call before(int code, Object receiver, Object argument, long index, int site) {
         return before(code, receiver, argument, index, null, site);
     }
-    /** The same of a call that expects a value under its key. */
+    /** Begins a call that changes a key only if the map has the value `expected` under it. */
     public static Call before(int code, Object receiver, Object argument, Object expected, int site) {
         return before(code, receiver, argument, -1, expected, site);
     }

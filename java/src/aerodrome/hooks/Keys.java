@@ -33,7 +33,7 @@ enum Keys {
 
     static Keys of(Object key) { return key == null ? NOT : OF.get(key.getClass()); }
 
-    /** Returns whether the natural order, if the key has one, takes it for the same as those that it equals, and as no others. */
+    /** Returns whether the key has no natural order, or one in which it is equal to exactly the keys that it `equals`. */
     static boolean isNatural(Object key) {
         Class<?> of = key.getClass();
         return of.getClassLoader() == null && !of.getName().equals("java.math.BigDecimal") || key instanceof Enum;

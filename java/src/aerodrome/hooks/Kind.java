@@ -36,7 +36,7 @@ public enum Kind {
     COUNT_DOWN(Group.ORDER), SIGNALLED_IF_TRUE(Group.ORDER),
     /** Of a phaser, by phase: arrivals, waits for the end of a phase, and both. */
     ARRIVE(Group.ORDER), AWAIT_PHASE(Group.ORDER), ARRIVE_AND_WAIT(Group.ORDER),
-    /** Both, of a barrier, by meeting. */
+    /** An arrival at a barrier before the call, and a read of the arrivals of its meeting after it. */
     MEET(Group.ORDER),
     /** A look at all additions, behind the call, and what adds and looks, before it: of what calls a function of the program. */
     LOOKED(Group.ORDER), RESETTING(Group.ORDER),
@@ -47,7 +47,7 @@ public enum Kind {
     ACQUIRE(Group.ORDER), ACQUIRE_IF_TRUE(Group.ORDER), ACQUIRE_ALL(Group.ORDER), RELEASE(Group.ORDER),
     /** The argument is put into a queue; the result is taken out of it, or goes to a list; or it stays there. */
     SEND(Group.ORDER), RECEIVE(Group.ORDER), DRAIN(Group.ORDER), PEEK(Group.ORDER),
-    /** So many at most go to a list. */
+    /** A `drainTo` with a maximum. */
     DRAIN_SOME(Group.ORDER),
     /** The same at the other end of a queue than usual. */
     SEND_FIRST(Group.ORDER), RECEIVE_LAST(Group.ORDER), PEEK_LAST(Group.ORDER),

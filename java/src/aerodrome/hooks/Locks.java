@@ -83,7 +83,7 @@ public final class Locks {
             throw new AssertionError(impossible);
         }
     }
-    /** One that isn't known may be held. */
+    /** Returns true also for a synchronizer of a class that isn't known here, because a writer may hold it. */
     private static boolean isWriter(Object synchronizer) {
         try {
             return !sync.isInstance(synchronizer) || (boolean) isWriter.invokeExact(synchronizer);

@@ -48,7 +48,7 @@ final class Queues {
         final long number;
         final Kind kind;
         final int site;
-        /** The thread that puts, until the lines of the put are written. */
+        /** The thread that puts; null once the lines of the put are written. */
         LoggedThread by;
         /** Whether the call has ended, so that the object is in the queue, or was. */
         boolean isEnded;
@@ -134,7 +134,7 @@ final class Queues {
     }
     private static long number(Object item) { return item == null ? 0 : Numbers.of(item); }
 
-    /** Writes the lines of a put, unless they are written. The line is one of the thread that puts. */
+    /** Writes the lines of a put, unless they are written already. `line` must be a line of the thread that puts. */
     private void tell(Object queue, Put put, Line line) {
         LoggedThread by = put.by;
         put.by = null;
@@ -204,13 +204,13 @@ final class Queues {
         if (before.put.by != null) tell(queue, before.put, me.line);
         if (isFirst) each(me, me.line, queue, sawFirst, FIRST, site);
     }
-    /** What wasn't put isn't there. */
+    /** Forgets a put whose call has put nothing. */
     synchronized void wasNotPut(Object item, Before before) {
         putting--;
         ArrayDeque<Put> same = inside.get(number(item));
         if (same != null && same.remove(before.put) && same.isEmpty()) inside.remove(number(item));
     }
-    /** As the queue was full. */
+    /** Forgets a put that the full queue refused, and logs the look that the refusal is. */
     synchronized void refused(LoggedThread me, Object queue, Object item, Before before, int site) {
         wasNotPut(item, before);
         if (way == Way.ROOM) sawSome(me, queue, before, site);

@@ -8,7 +8,7 @@ import java.util.function.LongUnaryOperator;
 import java.util.function.UnaryOperator;
 
 /**
- * In the place of the functions that are given to `updateAndGet` and the like. The write is logged once the function has given the next
+ * Wraps the function that a program gives to `updateAndGet` and the like. The write is logged once the function has returned the next
  * value, so a call whose function throws has written nothing. Instrumented code has the type of its function by the descriptor.
  */
 @SuppressWarnings("overloads")

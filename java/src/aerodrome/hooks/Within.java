@@ -36,7 +36,7 @@ public final class Within {
     }
     /** Gives the next value in the place of that which is expected, and otherwise the same value. */
     private static final class Exchange implements BiFunction<Object, Object, Object> {
-        /** Null: any. */
+        /** The value that must be under the key; null: any value. */
         private final Object expected;
         private final Object next;
         private boolean isDone;
